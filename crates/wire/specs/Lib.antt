@@ -1,0 +1,3 @@
+pub mod Codes
+pub mod Reading
+pub mod Writing
