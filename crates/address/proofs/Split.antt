@@ -2,7 +2,7 @@
 use mathlib.Core.Path.{_≡_, refl, sym, ap, _∙_}
 use mathlib.Core.Bool.{Bool, true, false, cond, _&&_}
 use mathlib.Core.List.{List, [], _∷_}
-use Prim.Native.Nat.{ℕ, suc, _<_}
+use Prim.Native.Nat.{ℕ, suc, _<_, _≤_}
 use lib.Dec.{ltb, eqb}
 use native.Mathlib.Omega.{arith}
 use lib.ListN.{length, take, drop}
@@ -10,7 +10,7 @@ use Rattle.std.proofs.shelf.Lists.{length-drop}
 use Rattle.std.proofs.shelf.Ways.{tells}
 use Rattle.std.proofs.shelf.Tests.{both-ways}
 use Rattle.wire.specs.Reading.{At, at, forward, before, beginsWith}
-use Rattle.address.specs.Addresses.{dot, isScheme, isSegment, allSegments, longerFirst, parts, restSegments, schemeFirst, schemeAndMore}
+use Rattle.address.specs.Addresses.{dot, isScheme, isSegment, allSegments, longerFirst, parts, restSegments, schemeFirst, schemeAndMore, isAddress}
 
 -- the parts after the first, of the bytes from the first dot on
 abbrev pub afterDot : List ℕ → List (List ℕ)
@@ -80,3 +80,8 @@ address-read s a b start e =
     ∙ ap (λ ps. ltb 0 (length (drop n (a .rest))) && schemeFirst ps) (sym (parts-first (a .rest)))
     ∙ ap (λ at. ltb 0 (length (at .rest)) && schemeFirst (parts (a .rest))) (sym e)
     ∙ ap (λ at. ltb 0 (length (b .rest)) && schemeFirst (parts (at .rest))) start
+
+-- an address is not too long for its field
+pub address-short : (s : List ℕ) → isAddress s ≡ true → length s ≤ 1023
+unfolding isAddress
+address-short s e = grind (arith, tells)

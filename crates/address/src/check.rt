@@ -1,8 +1,8 @@
 // Whether bytes are an address or a prefix. The check goes over the bytes by a reader, part by part.
 ghost use mathlib.Core.Path.{_≡_};
-ghost use Rattle.std.specs.shelf.Text.{sameBytes};
 ghost use Rattle.wire.specs.Reading.{standing};
 ghost use Rattle.address.specs.Addresses.{isScheme, isSymbol, isSegment, restSegments, isAddress, isPrefix};
+use wire::compare::same_bytes;
 use wire::reader::Reader;
 
 // The longest address.
@@ -25,25 +25,19 @@ fn is_segment(part: &[u8]) -> bool
     part.len() > 0
 }
 
-fn spells(part: &[u8], name: &[u8]) -> bool
-    ensures { λ r. ⌜ r ≡ sameBytes (now (part .entry)) (now (name .entry)) ⌝ }
-{
-    part == name
-}
-
 fn is_scheme(part: &[u8]) -> bool
     ensures { λ r. ⌜ r ≡ isScheme (now (part .entry)) ⌝ }
 {
-    spells(part, b"g")
-        || spells(part, b"private")
-        || spells(part, b"example")
-        || spells(part, b"peer")
-        || spells(part, b"self")
-        || spells(part, b"test")
-        || spells(part, b"test1")
-        || spells(part, b"test2")
-        || spells(part, b"test3")
-        || spells(part, b"local")
+    same_bytes(part, b"g")
+        || same_bytes(part, b"private")
+        || same_bytes(part, b"example")
+        || same_bytes(part, b"peer")
+        || same_bytes(part, b"self")
+        || same_bytes(part, b"test")
+        || same_bytes(part, b"test1")
+        || same_bytes(part, b"test2")
+        || same_bytes(part, b"test3")
+        || same_bytes(part, b"local")
 }
 
 // Zero or more segments, each behind its dot, up to the end.

@@ -1,7 +1,7 @@
 // The 21 codes with which a packet is rejected, under the names that Interledger gives them.
 // F codes are final, T codes may pass on another try, R codes say that the sender's amount or time was not enough.
 ghost use mathlib.Core.Path.{_≡_};
-ghost use Rattle.wire.specs.Codes.{codeBytes};
+ghost use Rattle.wire.specs.Codes.{codeBytes, isCode};
 
 #[derive(Clone, Copy, Debug, PartialEq, Eq)]
 pub enum RejectCode {
@@ -60,4 +60,11 @@ impl RejectCode {
             RejectCode::RelativeApplicationError => *b"R99",
         }
     }
+}
+
+// Whether bytes are a code that may be read, one of the 21 or not: F, T or R and two digits.
+pub fn is_code(bytes: &[u8]) -> bool
+    ensures { λ r. ⌜ r ≡ isCode (now (bytes .entry)) ⌝ }
+{
+    matches!(bytes, [b'F' | b'T' | b'R', b'0'..=b'9', b'0'..=b'9'])
 }

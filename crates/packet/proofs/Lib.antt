@@ -1,0 +1,4 @@
+pub mod Codec
+pub mod Contents
+pub mod Packets
+pub mod Parts

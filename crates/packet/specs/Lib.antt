@@ -1,0 +1,6 @@
+pub mod Values
+pub mod Encoding
+pub mod Fields
+pub mod Readers
+pub mod Writers
+pub mod OneEncoding
