@@ -5,15 +5,15 @@ use mathlib.Core.List.{List}
 use Prim.Native.Nat.{ℕ, _+_, _-_, _*_, _/_, _%_, _≤_, _<_}
 use native.Mathlib.Nat.{div-div-eq-div-mul}
 use native.Mathlib.Omega.{arith}
-use lib.ListN.{length}
 use lib.Dec.{leb}
+use lib.ListN.{length}
 use Rattle.std.specs.Options.{Cases as BySome}
 use Rattle.std.specs.declared.option.Option.the-variants.{Some, None}
 use Rattle.std.proofs.shelf.Tests.{cond-both, cond-true, leb-false, leb-true}
 use Rattle.std.proofs.shelf.Ways.{tells}
 use Rattle.calendar.specs.declared.civil.DateTime.{DateTime}
 use Rattle.calendar.specs.Calendar.{allDigits, dateTimeOf, dayNumber, daysBeforeMonth, daysBeforeYear, digitsOf, fieldsOf, instantAt, instantOf, isTimestamp, lastInstant, monthAndDay, monthLength, total, validDate, validTime, written, yearAndDay, yearLength, One-timestamp, Says-alone, Unsaid}
-use Rattle.calendar.proofs.Counting.{Place, counted}
+use Rattle.calendar.proofs.Counting.{Place}
 use Rattle.calendar.proofs.Fields.{Date, Time, date-from, date-parts, digits-written, fields-written, length-written, time-from, time-parts, written-fields}
 use Rattle.calendar.proofs.MonthLaws.{month-counted, month-place, month-within}
 use Rattle.calendar.proofs.YearLaws.{is-closed, year-counted, year-more, year-place}
@@ -40,7 +40,6 @@ module _ (t : DateTime) (d : Date t) (h : Time t) where
   pub date-time-back : dateTimeOf (instantAt t) ≡ t
   unfolding dateTimeOf instantAt
   date-time-back =
-      let i : ℕ = instantAt t in
       let dn : instantAt t / 86_400_000 ≡ dayNumber t = omega arith in
       let ho : instantAt t / 3_600_000 % 24 ≡ t .hour = omega arith in
       let mi : instantAt t / 60_000 % 60 ≡ t .minute = omega arith in

@@ -63,20 +63,24 @@ monthAndDay year days = countOff (monthLength year) 1 12 days
 
 -- A DATE AND TIME, AND ITS INSTANT
 
+-- a day of the calendar, from 1970 to 9999
 unfoldable pub validDate : DateTime → Bool
 validDate t =
     leb 1970 (t .year) && leb (t .year) 9999 && leb 1 (t .month) && leb (t .month) 12 && leb 1 (t .day) && leb (t .day) (monthLength (t .year) (t .month))
 
+-- a time of day, to the millisecond
 unfoldable pub validTime : DateTime → Bool
 validTime t = leb (t .hour) 23 && leb (t .minute) 59 && leb (t .second) 59 && leb (t .millisecond) 999
 
+-- from 1970-01-01 to the date
 unfoldable pub dayNumber : DateTime → ℕ
 dayNumber t = daysBeforeYear (t .year) + daysBeforeMonth (t .year) (t .month) + (t .day - 1)
 
+-- a day has 86,400,000 milliseconds, an hour 3,600,000, a minute 60,000 and a second 1,000
 unfoldable pub instantAt : DateTime → ℕ
 instantAt t = dayNumber t * 86_400_000 + t .hour * 3_600_000 + t .minute * 60_000 + t .second * 1_000 + t .millisecond
 
--- the date and time of an instant
+-- the date and time of an instant, which is to be at most the last one
 unfoldable pub dateTimeOf : ℕ → DateTime
 dateTimeOf instant =
     let inYear : ℕ × ℕ = yearAndDay (instant / 86_400_000) in

@@ -10,6 +10,7 @@ use crate::months::month_length;
 use crate::years::days_before_year;
 use crate::years::year_and_day;
 
+// how long each is, in milliseconds
 const SECOND: u64 = 1_000;
 
 const MINUTE: u64 = 60_000;
@@ -37,6 +38,7 @@ pub(crate) fn valid_time(at: DateTime) -> bool
     at.hour <= 23 && at.minute <= 59 && at.second <= 59 && at.millisecond <= 999
 }
 
+/// The instant of a date and time, whose date is one of the calendar.
 pub(crate) fn instant_at(at: DateTime) -> u64
     requires { ⌜ validDate at ≡ true ⌝ }
     ensures { λ r. ⌜ r ≡ instantAt at ⌝ }
@@ -51,6 +53,7 @@ pub(crate) fn instant_at(at: DateTime) -> u64
         + u64::from(at.millisecond)
 }
 
+/// The date and time of an instant up to the last one.
 pub(crate) fn date_time_at(instant: u64) -> DateTime
     requires { ⌜ instant ≤ lastInstant ⌝ }
     ensures { λ r. ⌜ r ≡ dateTimeOf instant ⌝ }

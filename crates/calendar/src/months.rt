@@ -4,6 +4,7 @@ ghost use Prim.Native.Nat.{_<_, _≤_};
 ghost use Rattle.calendar.specs.Calendar.{daysBeforeMonth, monthAndDay, monthLength, monthLengths, yearLength};
 use crate::years::is_leap;
 
+/// From January to December, in days.
 fn month_lengths(year: u32) -> [u32; 12]
     ensures { λ r. ⌜ r ≡ monthLengths year ⌝ }
 {

@@ -3,6 +3,7 @@ ghost use mathlib.Core.Path.{_≡_};
 ghost use Prim.Native.Nat.{_+_, _-_, _*_, _/_, _<_, _≤_};
 ghost use Rattle.calendar.specs.Calendar.{daysBeforeYear, leap, yearAndDay, yearLength};
 
+/// Every fourth year, but of the years that end a century only every fourth.
 pub(crate) fn is_leap(year: u32) -> bool
     ensures { λ r. ⌜ r ≡ leap year ⌝ }
 {

@@ -5,12 +5,12 @@ use mathlib.Core.List.{List, [], _∷_, _++_, append-nil}
 use Prim.Native.Nat.{ℕ, _+_, _<_, _≤_}
 use native.Mathlib.Omega.{arith}
 use lib.Dec.{eqb}
-use lib.ListN.{length, take}
+use lib.ListN.{length}
 use Rattle.std.specs.declared.result.Result.{Result}
 use Rattle.std.specs.declared.result.Result.the-variants.{Ok, Err}
 use Rattle.std.specs.Vec.{made}
 use Rattle.std.proofs.shelf.Ways.{tells}
-use Rattle.std.proofs.shelf.Lists.{length-append, nil-from-length, take-at}
+use Rattle.std.proofs.shelf.Lists.{length-append, nil-from-length}
 use Rattle.wire.specs.declared.fault.Fault.{Fault}
 use Rattle.wire.specs.declared.fault.Layer.the-variants.{Wrapper}
 use Rattle.wire.specs.declared.fault.Cause.the-variants.{WrongType, WrongLength, CutDeterminant}
@@ -22,12 +22,10 @@ use Rattle.calendar.proofs.Timestamps.{one-timestamp}
 use Rattle.address.proofs.Split.{address-short}
 use Rattle.packet.specs.declared.value.Kind.{Kind}
 use Rattle.packet.specs.declared.value.Kind.the-variants as kind
-use Rattle.packet.specs.declared.unwritten.Unwritten.{Unwritten}
 use Rattle.packet.specs.Values.{PacketValue, prepare, fulfill, reject, kindOf}
 use Rattle.packet.specs.Encoding.{typeByte, contentBytes, packetBytes, Well-formed}
 use Rattle.packet.specs.Fields.{readPrepare, readFulfill, readReject}
 use Rattle.packet.specs.Readers.{readKind, readLength, readEnd, wholly, readContent, result, asked, readAs, valued}
-use Rattle.packet.specs.Writers.{Writes}
 use Rattle.packet.specs.OneEncoding.{Bytes, One-encoding}
 use Rattle.packet.proofs.Codec.{from, Front, Codec, split-then, same-ok, bytes-rest}
 use Rattle.packet.proofs.Parts.{determinant-codec, amount-long, code-long, trigger-short}
@@ -153,9 +151,3 @@ one-encoding = record { back = back; forth = forth }
 pub read-back : {X : Type 0} (mean : X → PacketValue) (wanted : Kind → Bool) (bytes : List ℕ) (r : Result X Fault) → Bytes bytes → valued mean r ≡ readAs wanted bytes → made r (λ x. bytes ≡ packetBytes (mean x)) × made r (λ x. Well-formed (mean x))
 read-back mean wanted bytes (Ok x) low e = let b = back wanted bytes (mean x) low (sym e) in (b .0, b .1)
 read-back mean wanted bytes (Err f) low e = (tt, tt)
-
--- what a writer wrote is read again
-pub write-back : (wanted : Kind → Bool) (v : PacketValue) (before after : List ℕ) (r : Result ℕ Unwritten) → wanted (kindOf v) ≡ true → Writes v before after r → made r (λ n. readAs wanted (take n after) ≡ Ok v)
-write-back wanted v before after (Ok n) asks w =
-    ap (readAs wanted) (ap (take n) (w .2 .is) ∙ take-at (packetBytes v) _ n (sym (w .2 .end))) ∙ forth wanted v (w .1) asks
-write-back wanted v before after (Err e) asks w = tt

@@ -1,6 +1,4 @@
 // The packets of Interledger: Prepare, Fulfill and Reject, read from lent bytes and written into a lent buffer.
-mod fields;
+pub mod fields;
 pub mod reading;
-pub mod unwritten;
 pub mod value;
-pub mod writing;

@@ -1,6 +1,6 @@
 // The packets, whose parts are borrowed from the bytes that they were read from.
 
-#[derive(Clone, Copy, Debug, PartialEq)]
+#[derive(Clone, Copy)]
 pub enum Kind {
     Prepare,
     Fulfill,
@@ -8,7 +8,7 @@ pub enum Kind {
 }
 
 // The expiry is an instant: milliseconds since 1970 began.
-#[derive(Clone, Copy, Debug, PartialEq)]
+#[derive(Clone, Copy)]
 pub struct Prepare<'a> {
     pub amount: u64,
     pub expiry: u64,
@@ -17,14 +17,14 @@ pub struct Prepare<'a> {
     pub data: &'a [u8],
 }
 
-#[derive(Clone, Copy, Debug, PartialEq)]
+#[derive(Clone, Copy)]
 pub struct Fulfill<'a> {
     pub fulfilment: &'a [u8],
     pub data: &'a [u8],
 }
 
 // A code read may be any letter F, T or R with two digits, so it stays the three bytes that it is.
-#[derive(Clone, Copy, Debug, PartialEq)]
+#[derive(Clone, Copy)]
 pub struct Reject<'a> {
     pub code: &'a [u8],
     pub triggered_by: &'a [u8],
@@ -32,7 +32,7 @@ pub struct Reject<'a> {
     pub data: &'a [u8],
 }
 
-#[derive(Clone, Copy, Debug, PartialEq)]
+#[derive(Clone, Copy)]
 pub enum Packet<'a> {
     Prepare(Prepare<'a>),
     Fulfill(Fulfill<'a>),
@@ -40,7 +40,7 @@ pub enum Packet<'a> {
 }
 
 // What may come back for a Prepare.
-#[derive(Clone, Copy, Debug, PartialEq)]
+#[derive(Clone, Copy)]
 pub enum Answer<'a> {
     Fulfill(Fulfill<'a>),
     Reject(Reject<'a>),

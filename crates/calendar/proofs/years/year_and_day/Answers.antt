@@ -1,7 +1,6 @@
-use mathlib.Core.Path.{_≡_, ap, sym}
+use mathlib.Core.Path.{sym}
 use native.Mathlib.Omega.{arith}
 use Prim.Native.Nat.{_+_, _-_}
-use Rattle.calendar.specs.Calendar.{daysBeforeYear}
 use Rattle.calendar.proofs.YearLaws.{is-closed, year-counted, year-more}
 use Rattle.calendar.proofs.years.year_and_day.Needs as need
 

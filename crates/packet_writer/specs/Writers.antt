@@ -6,10 +6,10 @@ use lib.ListN.{length}
 use Rattle.std.specs.declared.result.Result.{Result}
 use Rattle.std.specs.declared.result.Result.the-variants.{Ok, Err}
 use Rattle.wire.specs.Writing.{Written}
-use Rattle.packet.specs.declared.unwritten.Unwritten.{Unwritten}
-use Rattle.packet.specs.declared.unwritten.Unwritten.the-variants.{ShortBuffer, NoEncoding}
+use Rattle.packet_writer.specs.declared.unwritten.Unwritten.{Unwritten}
+use Rattle.packet_writer.specs.declared.unwritten.Unwritten.the-variants.{ShortBuffer, NoEncoding}
 use Rattle.packet.specs.Values.{PacketValue}
 use Rattle.packet.specs.Encoding.{packetBytes, Well-formed}
 
 -- the longest packet, a Reject: 1 + 3 bytes before the content, and 3 + (3 + 1,023) + (3 + 8,191) + (3 + 32,767) of it
 abbrev pub longest : ℕ

@@ -6,9 +6,9 @@ use native.Mathlib.Omega.{arith}
 use Rattle.std.proofs.shelf.Lists.{length-append}
 use Rattle.wire.specs.Writing.{determinantOf}
 use Rattle.wire.proofs.Written.{wrote-then, wrote-as, written}
 use Rattle.packet.specs.Values.{fulfillOf}
 use Rattle.packet.specs.Encoding.{fulfillBytes, packetBytes}
-use Rattle.packet.proofs.writing.put_fulfill.Needs as need
+use Rattle.packet_writer.proofs.writing.put_fulfill.Needs as need
 
 pub returns : need.returns
 unfolding packetBytes

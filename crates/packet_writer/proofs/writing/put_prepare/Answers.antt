@@ -7,9 +7,9 @@ use Rattle.std.proofs.shelf.Lists.{length-append}
 use Rattle.wire.specs.Writing.{determinantOf}
 use Rattle.wire.proofs.Written.{wrote-then, wrote-as, written}
 use Rattle.calendar.proofs.Timestamps.{one-timestamp}
 use Rattle.packet.specs.Values.{prepareOf}
 use Rattle.packet.specs.Encoding.{amountBytes, prepareBytes, packetBytes}
-use Rattle.packet.proofs.writing.put_prepare.Needs as need
+use Rattle.packet_writer.proofs.writing.put_prepare.Needs as need
 
 pub returns : need.returns
 unfolding amountBytes packetBytes

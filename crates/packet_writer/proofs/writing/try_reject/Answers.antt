@@ -1,6 +1,6 @@
 use native.Mathlib.Omega.{arith}
 use Rattle.packet.proofs.Parts.{code-long, trigger-short}
-use Rattle.packet.proofs.writing.try_reject.Needs as need
+use Rattle.packet_writer.proofs.writing.try_reject.Needs as need
 
 pub put-reject-requires : need.put-reject-requires
 put-reject-requires c κs =

@@ -1,7 +1,7 @@
 use native.Mathlib.Omega.{arith}
 use Rattle.std.proofs.shelf.Ways.{tells}
 use Rattle.address.proofs.Split.{address-short}
-use Rattle.packet.proofs.writing.try_prepare.Needs as need
+use Rattle.packet_writer.proofs.writing.try_prepare.Needs as need
 
 pub put-prepare-requires : need.put-prepare-requires
 put-prepare-requires c κs =

@@ -1,0 +1,3 @@
+// Packets written into a buffer that the caller lends.
+pub mod unwritten;
+pub mod writing;
