@@ -17,7 +17,7 @@ mod years;
 pub use civil::DateTime;
 
 /// 9999-12-31 23:59:59.999
-const LAST: u64 = 253_402_300_799_999;
+pub const LAST_INSTANT: u64 = 253_402_300_799_999;
 
 /// The instant that the bytes say, if they are a timestamp.
 fn instant_said(digits: &[u8]) -> Option<u64>
@@ -46,7 +46,7 @@ pub fn read_timestamp(digits: &[u8]) -> Option<u64>
 pub fn date_time(instant: u64) -> Option<DateTime>
     ensures { λ r. ⌜ r ≡ cond (leb instant lastInstant) (Some (dateTimeOf instant)) None ⌝ }
 {
-    if instant <= LAST {
+    if instant <= LAST_INSTANT {
         Some(instants::date_time_at(instant))
     } else {
         None

@@ -78,7 +78,12 @@ fn push_reject(heap: Global, text: &mut String, r: &Reject<'_>) -> Result<(), Al
     push_size(heap, text, "data", r.data)
 }
 
-fn push_address(heap: Global, text: &mut String, before: &str, bytes: &[u8]) -> Result<(), AllocError> {
+fn push_address(
+    heap: Global,
+    text: &mut String,
+    before: &str,
+    bytes: &[u8],
+) -> Result<(), AllocError> {
     let size = bytes.len();
     text.push_str(before)?;
     push_ascii(text, bytes)?;
@@ -100,12 +105,20 @@ fn push_expiry(heap: Global, text: &mut String, instant: u64) -> Result<(), Allo
     let (hour, minute, second, millisecond) = (at.hour, at.minute, at.second, at.millisecond);
     let date = format!(heap, "expiry: {year:04}-{month:02}-{day:02} ")?;
     text.push_str(date.as_str())?;
-    let time = format!(heap, "{hour:02}:{minute:02}:{second:02}.{millisecond:03} UTC, instant {instant}\n")?;
+    let time = format!(
+        heap,
+        "{hour:02}:{minute:02}:{second:02}.{millisecond:03} UTC, instant {instant}\n"
+    )?;
     text.push_str(time.as_str())
 }
 
 // The packet written again: its bytes, how many they are, and whether they are the input.
-fn push_again(heap: Global, text: &mut String, packet: &Packet<'_>, input: &[u8]) -> Result<(), AllocError> {
+fn push_again(
+    heap: Global,
+    text: &mut String,
+    packet: &Packet<'_>,
+    input: &[u8],
+) -> Result<(), AllocError> {
     let mut out = vec![in heap; 0u8; LONGEST_PACKET]?;
     let Ok(n) = write_packet(&mut out, packet) else {
         return text.push_str("not written again\n");
@@ -120,7 +133,11 @@ fn push_again(heap: Global, text: &mut String, packet: &Packet<'_>, input: &[u8]
         push_hex(text, line)?;
         text.push_str("\n")?;
     }
-    let equal = if same_bytes(again, input) { "yes" } else { "no" };
+    let equal = if same_bytes(again, input) {
+        "yes"
+    } else {
+        "no"
+    };
     let line = format!(heap, "{n} bytes; equal to the input: {equal}\n")?;
     text.push_str(line.as_str())
 }
@@ -137,8 +154,16 @@ mod tests {
 
     #[test]
     fn faults_in_words(rt: LibcRuntime) -> Result<(), Fail> {
-        check_statement(&rt, b"", "no packet: wrapper fault at byte 0: there are no bytes\n")?;
-        check_statement(&rt, b"junk", "no packet: wrapper fault at byte 0: the type byte is not 0C, 0D or 0E\n")?;
+        check_statement(
+            &rt,
+            b"",
+            "no packet: wrapper fault at byte 0: there are no bytes\n",
+        )?;
+        check_statement(
+            &rt,
+            b"junk",
+            "no packet: wrapper fault at byte 0: the type byte is not 0C, 0D or 0E\n",
+        )?;
         let oversized = vec![in rt.alloc(); 0x0Eu8; 65_540]?;
         check_statement(
             &rt,

@@ -4,6 +4,8 @@ ghost use Rattle.wire.specs.Reading.{standing, Reads};
 ghost use Rattle.packet.specs.Values.{prepareOf, fulfillOf, rejectOf};
 ghost use Rattle.packet.specs.Fields.{readAmount, readExpiry, readCode, readDestination, readTrigger, readPrepare, readFulfill, readReject};
 use crate::value::Fulfill;
+use crate::value::LONGEST_DATA;
+use crate::value::LONGEST_MESSAGE;
 use crate::value::Prepare;
 use crate::value::Reject;
 use address::check::MOST as LONGEST_ADDRESS;
@@ -14,10 +16,6 @@ use wire::fault::Cause;
 use wire::fault::Fault;
 use wire::fault::Layer;
 use wire::reader::Reader;
-
-pub const LONGEST_DATA: usize = 32767;
-
-pub const LONGEST_MESSAGE: usize = 8191;
 
 fn amount(reader: &mut Reader<'_>) -> Result<u64, Fault>
     ensures { λ r. ⌜ Reads (λ n. n) r (readAmount (standing (now (reader .entry)))) (standing (now (reader .exit))) ⌝ }
@@ -71,7 +69,7 @@ fn triggered_by<'a>(reader: &mut Reader<'a>) -> Result<&'a [u8], Fault>
     Ok(bytes)
 }
 
-pub fn prepare<'a>(reader: &mut Reader<'a>) -> Result<Prepare<'a>, Fault>
+pub(crate) fn prepare<'a>(reader: &mut Reader<'a>) -> Result<Prepare<'a>, Fault>
     ensures { λ r. ⌜ Reads prepareOf r (readPrepare (standing (now (reader .entry)))) (standing (now (reader .exit))) ⌝ }
 {
     let amount = amount(reader)?;
@@ -88,7 +86,7 @@ pub fn prepare<'a>(reader: &mut Reader<'a>) -> Result<Prepare<'a>, Fault>
     })
 }
 
-pub fn fulfill<'a>(reader: &mut Reader<'a>) -> Result<Fulfill<'a>, Fault>
+pub(crate) fn fulfill<'a>(reader: &mut Reader<'a>) -> Result<Fulfill<'a>, Fault>
     ensures { λ r. ⌜ Reads fulfillOf r (readFulfill (standing (now (reader .entry)))) (standing (now (reader .exit))) ⌝ }
 {
     let fulfilment = reader.fixed(32)?;
@@ -96,7 +94,7 @@ pub fn fulfill<'a>(reader: &mut Reader<'a>) -> Result<Fulfill<'a>, Fault>
     Ok(Fulfill { fulfilment, data })
 }
 
-pub fn reject<'a>(reader: &mut Reader<'a>) -> Result<Reject<'a>, Fault>
+pub(crate) fn reject<'a>(reader: &mut Reader<'a>) -> Result<Reject<'a>, Fault>
     ensures { λ r. ⌜ Reads rejectOf r (readReject (standing (now (reader .entry)))) (standing (now (reader .exit))) ⌝ }
 {
     let code = code(reader)?;

@@ -1,4 +1,4 @@
 // The packets of Interledger: Prepare, Fulfill and Reject, read from lent bytes and written into a lent buffer.
-pub mod fields;
+mod fields;
 pub mod reading;
 pub mod value;

@@ -1,5 +1,9 @@
 // The packets, whose parts are borrowed from the bytes that they were read from.
 
+pub const LONGEST_DATA: usize = 32_767;
+
+pub const LONGEST_MESSAGE: usize = 8_191;
+
 #[derive(Clone, Copy)]
 pub enum Kind {
     Prepare,

@@ -11,15 +11,16 @@ ghost use Rattle.packet.specs.Values.{prepareOf, fulfillOf, rejectOf, packetOf,
 ghost use Rattle.packet.specs.Encoding.{packetBytes, Prepare-fits, Fulfill-fits, Reject-fits};
 ghost use Rattle.packet.specs.Readers.{readAs, anyKind, prepareKind, answerKind};
 ghost use Rattle.packet_writer.specs.Writers.{longest, Writes};
-use packet::fields::LONGEST_DATA;
-use packet::fields::LONGEST_MESSAGE;
 use crate::unwritten::Unwritten;
+use address::check::is_address;
+use calendar::LAST_INSTANT;
+use calendar::write_timestamp;
 use packet::value::Fulfill;
+use packet::value::LONGEST_DATA;
+use packet::value::LONGEST_MESSAGE;
 use packet::value::Packet;
 use packet::value::Prepare;
 use packet::value::Reject;
-use address::check::is_address;
-use calendar::write_timestamp;
 use wire::code::is_code;
 use wire::writing::field_size;
 use wire::writing::put;
@@ -32,7 +33,7 @@ pub const LONGEST_PACKET: usize = 41_997;
 fn prepare_fits(p: Prepare<'_>) -> bool
     ensures { λ r. ⌜ Decides r (Prepare-fits (prepareOf (p .entry))) ⌝ }
 {
-    p.expiry <= 253_402_300_799_999
+    p.expiry <= LAST_INSTANT
         && p.condition.len() == 32
         && p.data.len() <= LONGEST_DATA
         && is_address(p.destination)
@@ -150,27 +151,27 @@ fn try_packet(out: &mut [u8], packet: &Packet<'_>) -> Result<usize, Unwritten>
 }
 
 // The Prepare's encoding in front of the buffer, and how long it is.
-pub fn write_prepare(out: &mut [u8], p: &Prepare<'_>) -> Result<usize, Unwritten>
-    ensures writes { λ r. ⌜ Writes (prepare (prepareOf (now (p .entry)))) (now (out .entry)) (now (out .exit)) r ⌝ }
-    ensures back { λ r. ⌜ made r (λ n. readAs prepareKind (take n (now (out .exit))) ≡ Ok (prepare (prepareOf (now (p .entry))))) ⌝ }
+pub fn write_prepare(out: &mut [u8], packet: &Prepare<'_>) -> Result<usize, Unwritten>
+    ensures writes { λ r. ⌜ Writes (prepare (prepareOf (now (packet .entry)))) (now (out .entry)) (now (out .exit)) r ⌝ }
+    ensures back { λ r. ⌜ made r (λ n. readAs prepareKind (take n (now (out .exit))) ≡ Ok (prepare (prepareOf (now (packet .entry))))) ⌝ }
 {
-    try_prepare(out, p)
+    try_prepare(out, packet)
 }
 
 // The Fulfill's encoding in front of the buffer, and how long it is.
-pub fn write_fulfill(out: &mut [u8], f: &Fulfill<'_>) -> Result<usize, Unwritten>
-    ensures writes { λ r. ⌜ Writes (fulfill (fulfillOf (now (f .entry)))) (now (out .entry)) (now (out .exit)) r ⌝ }
-    ensures back { λ r. ⌜ made r (λ n. readAs answerKind (take n (now (out .exit))) ≡ Ok (fulfill (fulfillOf (now (f .entry))))) ⌝ }
+pub fn write_fulfill(out: &mut [u8], packet: &Fulfill<'_>) -> Result<usize, Unwritten>
+    ensures writes { λ r. ⌜ Writes (fulfill (fulfillOf (now (packet .entry)))) (now (out .entry)) (now (out .exit)) r ⌝ }
+    ensures back { λ r. ⌜ made r (λ n. readAs answerKind (take n (now (out .exit))) ≡ Ok (fulfill (fulfillOf (now (packet .entry))))) ⌝ }
 {
-    try_fulfill(out, f)
+    try_fulfill(out, packet)
 }
 
 // The Reject's encoding in front of the buffer, and how long it is.
-pub fn write_reject(out: &mut [u8], r: &Reject<'_>) -> Result<usize, Unwritten>
-    ensures writes { λ n. ⌜ Writes (reject (rejectOf (now (r .entry)))) (now (out .entry)) (now (out .exit)) n ⌝ }
-    ensures back { λ n. ⌜ made n (λ k. readAs answerKind (take k (now (out .exit))) ≡ Ok (reject (rejectOf (now (r .entry))))) ⌝ }
+pub fn write_reject(out: &mut [u8], packet: &Reject<'_>) -> Result<usize, Unwritten>
+    ensures writes { λ n. ⌜ Writes (reject (rejectOf (now (packet .entry)))) (now (out .entry)) (now (out .exit)) n ⌝ }
+    ensures back { λ n. ⌜ made n (λ k. readAs answerKind (take k (now (out .exit))) ≡ Ok (reject (rejectOf (now (packet .entry))))) ⌝ }
 {
-    try_reject(out, r)
+    try_reject(out, packet)
 }
 
 // The packet's encoding in front of the buffer, and how long it is.

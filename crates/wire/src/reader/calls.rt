@@ -16,12 +16,6 @@ impl<'a> Reader<'a> {
         Reader { bytes, place: 0 }
     }
 
-    pub fn place(&self) -> usize
-        ensures { λ r. ⌜ r ≡ standing (now (self .entry)) .place ⌝ }
-    {
-        self.place
-    }
-
     // How many bytes are left.
     pub fn left(&self) -> usize
         ensures { λ r. ⌜ r ≡ length (standing (now (self .entry)) .rest) ⌝ }
@@ -56,8 +50,8 @@ impl<'a> Reader<'a> {
     pub fn fixed(&mut self, n: usize) -> Result<&'a [u8], Fault>
         ensures { λ r. ⌜ Reads now r (fixed n (standing (now (self .entry)))) (standing (now (self .exit))) ⌝ }
     {
-        let cut = self.fault(Layer::Field, Cause::CutShort);
-        self.next_bytes(n, cut)
+        let short = self.fault(Layer::Field, Cause::CutShort);
+        self.next_bytes(n, short)
     }
 
     // The length that a determinant says. The layer has its own name for one whose bytes are not all there.
