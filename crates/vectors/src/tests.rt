@@ -1,0 +1,14 @@
+// What is tested: packets written down by hand, the same packets damaged, and the edges of lengths, times, addresses and
+// codes. The bytes of every example come from the format, and none from the writer that is tested.
+mod addresses;
+mod codes;
+mod damage;
+mod determinants;
+mod examples;
+mod packets;
+mod refusals;
+mod round_trips;
+mod support;
+mod times;
+mod too_long;
+mod wrapper;
