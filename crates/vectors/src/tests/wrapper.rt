@@ -7,157 +7,45 @@ use crate::tests::support::check_fault;
 use std::alloc::Global;
 use std::test::*;
 use wire::fault::Cause;
+use wire::fault::Cause::BadDeterminant;
+use wire::fault::Cause::CutDeterminant;
+use wire::fault::Cause::WrongLength;
 use wire::fault::Fault;
 use wire::fault::Layer;
 
-// The bytes after the type byte, and the fault: its layer, its cause and its offset.
-type Wrapped = (&'static str, &'static [u8], Layer, Cause, usize);
+// The bytes after the type byte, and the cause of the fault, which is the wrapper's and told at 1.
+type Wrapped = (&'static str, &'static [u8], Cause);
 
-const WRAPPED: [Wrapped; 21] = [
-    (
-        "no determinant",
-        b"",
-        Layer::Wrapper,
-        Cause::CutDeterminant,
-        1,
-    ),
-    (
-        "81 at the end",
-        b"\x81",
-        Layer::Wrapper,
-        Cause::CutDeterminant,
-        1,
-    ),
-    (
-        "82 at the end",
-        b"\x82",
-        Layer::Wrapper,
-        Cause::CutDeterminant,
-        1,
-    ),
-    (
-        "82 00 at the end, cut and not bad",
-        b"\x82\x00",
-        Layer::Wrapper,
-        Cause::CutDeterminant,
-        1,
-    ),
-    (
-        "82 FF at the end",
-        b"\x82\xFF",
-        Layer::Wrapper,
-        Cause::CutDeterminant,
-        1,
-    ),
-    ("80", b"\x80", Layer::Wrapper, Cause::BadDeterminant, 1),
-    (
-        "80 and more",
-        b"\x80\x00\x00\x00",
-        Layer::Wrapper,
-        Cause::BadDeterminant,
-        1,
-    ),
-    ("83", b"\x83", Layer::Wrapper, Cause::BadDeterminant, 1),
-    (
-        "83 and more",
-        b"\x83\x00\x00\x01\xFF",
-        Layer::Wrapper,
-        Cause::BadDeterminant,
-        1,
-    ),
-    ("FF", b"\xFF", Layer::Wrapper, Cause::BadDeterminant, 1),
-    (
-        "0 in two bytes",
-        b"\x81\x00",
-        Layer::Wrapper,
-        Cause::BadDeterminant,
-        1,
-    ),
-    (
-        "1 in two bytes, and one byte",
-        b"\x81\x01\xFF",
-        Layer::Wrapper,
-        Cause::BadDeterminant,
-        1,
-    ),
-    (
-        "127 in two bytes",
-        b"\x81\x7F",
-        Layer::Wrapper,
-        Cause::BadDeterminant,
-        1,
-    ),
-    (
-        "0 in three bytes",
-        b"\x82\x00\x00",
-        Layer::Wrapper,
-        Cause::BadDeterminant,
-        1,
-    ),
-    (
-        "255 in three bytes",
-        b"\x82\x00\xFF",
-        Layer::Wrapper,
-        Cause::BadDeterminant,
-        1,
-    ),
-    (
-        "1, and no byte",
-        b"\x01",
-        Layer::Wrapper,
-        Cause::WrongLength,
-        1,
-    ),
-    (
-        "1, and two bytes",
-        b"\x01\x00\x00",
-        Layer::Wrapper,
-        Cause::WrongLength,
-        1,
-    ),
-    (
-        "0, and a byte",
-        b"\x00\x00",
-        Layer::Wrapper,
-        Cause::WrongLength,
-        1,
-    ),
-    (
-        "128, and no byte",
-        b"\x81\x80",
-        Layer::Wrapper,
-        Cause::WrongLength,
-        1,
-    ),
-    (
-        "65,535, and a byte",
-        b"\x82\xFF\xFF\x00",
-        Layer::Wrapper,
-        Cause::WrongLength,
-        1,
-    ),
-    (
-        "0, and no byte: the first field is missing",
-        b"\x00",
-        Layer::Field,
-        Cause::CutShort,
-        2,
-    ),
+const WRAPPED: [Wrapped; 3] = [
+    ("80", b"\x80", BadDeterminant),
+    ("83", b"\x83", BadDeterminant),
+    ("FF", b"\xFF", BadDeterminant),
 ];
 
+fn at_one(cause: Cause) -> Fault {
+    Fault {
+        layer: Layer::Wrapper,
+        cause,
+        offset: 1,
+    }
+}
+
 fn check_wrapped(heap: Global, kind: u8) -> Result<(), Fail> {
-    for (name, rest, layer, cause, offset) in &WRAPPED {
+    for (name, rest, cause) in &WRAPPED {
         let mut bytes = Vec::new(heap);
         bytes.push(kind)?;
         bytes.extend_from_slice(rest)?;
-        let fault = Fault {
-            layer: *layer,
-            cause: *cause,
-            offset: *offset,
-        };
-        check_fault(&bytes, fault, name)?;
+        check_fault(&bytes, at_one(*cause), name)?;
     }
-    Ok(())
+    let mut bytes = Vec::new(heap);
+    bytes.push(kind)?;
+    bytes.push(0)?;
+    let missing = Fault {
+        layer: Layer::Field,
+        cause: Cause::CutShort,
+        offset: 2,
+    };
+    check_fault(&bytes, missing, "no content")
 }
 
 #[test]
@@ -199,21 +87,11 @@ fn check_cut_anywhere(heap: Global, good: &[u8]) -> Result<(), Fail> {
         } else {
             Cause::WrongLength
         };
-        let fault = Fault {
-            layer: Layer::Wrapper,
-            cause,
-            offset: 1,
-        };
-        check_fault(&good[0..n], fault, "a packet cut").note(n)?;
+        check_fault(&good[0..n], at_one(cause), "a packet cut").note(n)?;
     }
-    let longer = Fault {
-        layer: Layer::Wrapper,
-        cause: Cause::WrongLength,
-        offset: 1,
-    };
     let mut bytes = good.to_vec(heap)?;
     bytes.push(0)?;
-    check_fault(&bytes, longer, "a byte too many")
+    check_fault(&bytes, at_one(Cause::WrongLength), "a byte too many")
 }
 
 #[test]
