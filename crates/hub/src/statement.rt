@@ -5,6 +5,7 @@ use crate::words::layer_words;
 use crate::words::push_ascii;
 use crate::words::push_hex;
 use calendar::date_time;
+use condition::sha256::digest;
 use packet::reading::read_packet;
 use packet::value::Fulfill;
 use packet::value::Packet;
@@ -64,6 +65,11 @@ fn push_fulfill(heap: Global, text: &mut String, f: &Fulfill<'_>) -> Result<(), 
     text.push_str("Fulfill\nfulfilment: ")?;
     push_hex(text, f.fulfilment)?;
     text.push_str("\n")?;
+    if let Ok(fulfilment) = <&[u8; 32]>::try_from(f.fulfilment) {
+        text.push_str("its SHA-256: ")?;
+        push_hex(text, &digest(fulfilment))?;
+        text.push_str("\n")?;
+    }
     push_size(heap, text, "data", f.data)
 }
 
@@ -186,7 +192,7 @@ mod tests {
         check_statement(
             &rt,
             b"\x0D\x23abcdefghijklmnopqrstuvwxyz012345\x02ok",
-            "Fulfill\nfulfilment: 6162636465666768696a6b6c6d6e6f707172737475767778797a303132333435\ndata: 2 bytes\nwritten again:\n  0d236162636465666768696a6b6c6d6e6f707172737475767778797a30313233\n  3435026f6b\n37 bytes; equal to the input: yes\n",
+            "Fulfill\nfulfilment: 6162636465666768696a6b6c6d6e6f707172737475767778797a303132333435\nits SHA-256: 653bb1245e828fcda4fa53fcd5a3def5bd7654e651f54b4132b73d74e64435c4\ndata: 2 bytes\nwritten again:\n  0d236162636465666768696a6b6c6d6e6f707172737475767778797a30313233\n  3435026f6b\n37 bytes; equal to the input: yes\n",
         )
     }
 }

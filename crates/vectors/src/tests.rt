@@ -5,6 +5,7 @@ mod codes;
 mod damage;
 mod determinants;
 mod examples;
+mod hashes;
 mod packets;
 mod refusals;
 mod round_trips;

@@ -1,0 +1,3 @@
+pub mod Fulfilment
+pub mod Practice
+pub mod Sha256
