@@ -1,7 +1,7 @@
 // A date and a time of day, as people write them. It stands in a file of its own since the specification names it.
 
 /// A date of the Gregorian calendar and a time of day in UTC. Months and days are counted from 1.
-#[derive(Clone, Copy, Debug, PartialEq, Eq)]
+#[derive(Clone, Copy)]
 pub struct DateTime {
     pub year: u32,
     pub month: u32,

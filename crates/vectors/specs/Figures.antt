@@ -1,4 +1,4 @@
--- What the format gives at its edges, each as one line: times, lengths and one fault of each. The definitions are those
+-- What the rules give at their edges, each as one line: times, lengths, one fault of each, and conversions. The definitions are those
 -- that the contracts of the crates below name. Assumes nothing.
 use mathlib.Core.Path.{_≡_}
 use mathlib.Core.List.{List, [], _∷_}
@@ -12,11 +12,19 @@ use Rattle.wire.specs.Reading.{At, at, fails, determinant}
 use Rattle.wire.specs.Writing.{determinantOf}
 use Rattle.calendar.specs.Calendar.{instantOf, digitsOf}
 use Rattle.packet.specs.Fields.{readExpiry}
+use Rattle.wire.specs.declared.code.RejectCode.the-variants.{InsufficientSourceAmount}
+use Rattle.stage.specs.declared.transfer.Transfer.{Transfer}
+use Rattle.layers.specs.declared.own.Own.the-variants.{Onward}
+use Rattle.layers.specs.Layers.{withAmount, rejectsOwn, rateOwn}
 
 -- a determinant of these bytes is read as the length n, by the wrapper and by a field, and nothing is left after it
 pub record Read-as (bytes : List ℕ) (n : ℕ) (end : ℕ) : Type 0 where
   pub wrapper : determinant Wrapper CutDeterminant (at 0 bytes) ≡ Ok (n, record { place = end; rest = [] })
   pub inField : determinant Field CutShort (at 0 bytes) ≡ Ok (n, record { place = end; rest = [] })
+
+-- a transfer from account 0 to account 1
+abbrev pub Between-0-and-1 : Transfer → Type 0
+Between-0-and-1 t = (t .accounts .incoming ≡ 0) × (t .accounts .outgoing ≡ 1)
 
 pub record Edge-figures : Type 0 where
   -- 1970-01-01 00:00:00.000 is instant 0, and is written for it
@@ -47,3 +55,7 @@ pub record Edge-figures : Type 0 where
   -- 127 in two bytes: a shorter determinant says it
   pub not-shortest-wrapper : determinant Wrapper CutDeterminant (at 0 (0x81 ∷ 0x7F ∷ [])) ≡ fails Wrapper BadDeterminant (at 0 (0x81 ∷ 0x7F ∷ []))
   pub not-shortest-field : determinant Field CutShort (at 0 (0x81 ∷ 0x7F ∷ [])) ≡ fails Field BadDeterminant (at 0 (0x81 ∷ 0x7F ∷ []))
+  -- amount 10 at prices 3 to 7 becomes 4, amount 2 at prices 1 to 3 becomes nothing and gets R01, and amount 0 passes as 0
+  pub ten-at-3-to-7 : (t : Transfer) → Between-0-and-1 t → t .amount ≡ 10 → rateOwn (3 ∷ 7 ∷ []) t ≡ Onward (withAmount t 4)
+  pub two-at-1-to-3 : (t : Transfer) → Between-0-and-1 t → t .amount ≡ 2 → rateOwn (1 ∷ 3 ∷ []) t ≡ rejectsOwn InsufficientSourceAmount
+  pub nothing-at-1-to-3 : (t : Transfer) → Between-0-and-1 t → t .amount ≡ 0 → rateOwn (1 ∷ 3 ∷ []) t ≡ Onward (withAmount t 0)

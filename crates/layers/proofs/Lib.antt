@@ -1,0 +1,2 @@
+pub mod OverLaws
+pub mod Positives

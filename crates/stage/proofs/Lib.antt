@@ -1,0 +1,2 @@
+pub mod Executed
+pub mod OpenLists
