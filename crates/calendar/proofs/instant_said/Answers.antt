@@ -7,10 +7,10 @@ pub returns-then-digits-ne17 : goal.returns-then-digits-ne17
 unfolding instant_of is_timestamp
 returns-then-digits-ne17 c = grind (arith, nat_tests)
 
-pub returns-then-valid-time : goal.returns-then-valid-time
+pub returns-then-valid_time : goal.returns-then-valid_time
 unfolding instant_of is_timestamp
-returns-then-valid-time c = grind (arith, nat_tests)
+returns-then-valid_time c = grind (arith, nat_tests)
 
-pub returns-else-valid-date : goal.returns-else-valid-date
+pub returns-else-valid_date : goal.returns-else-valid_date
 unfolding instant_of is_timestamp
-returns-else-valid-date c = grind (arith, nat_tests)
+returns-else-valid_date c = grind (arith, nat_tests)

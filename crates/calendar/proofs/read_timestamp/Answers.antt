@@ -5,6 +5,6 @@ use Rattle.calendar.proofs.read_timestamp.Goals as goal
 pub returns : goal.returns
 returns c =
     record {
-      value = c.instant-said.ensures;
-      only = λ i e. one-timestamp.back c.args.digits.now i (sym c.instant-said.ensures ∙ e);
+      value = c.instant_said.ensures;
+      only = λ i e. one-timestamp.back c.args.digits.now i (sym c.instant_said.ensures ∙ e);
     }

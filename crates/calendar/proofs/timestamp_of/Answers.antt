@@ -6,6 +6,6 @@ use Rattle.calendar.proofs.timestamp_of.Goals as goal
 pub returns : goal.returns
 unfolding digits_of
 returns c =
-    let e = c.in-ok-at.ensures in
-    let w = c.written-digits.ensures in
+    let e = c.in_ok-at.ensures in
+    let w = c.written_digits.ensures in
     grind (arith, nat_tests)

@@ -4,8 +4,8 @@ use Rattle.wire.specs.Reading.{standing}
 use Rattle.address.proofs.Split.{segment-read, rest-shorter}
 use Rattle.address.proofs.check.has_segments.Goals as goal
 
-pub returns-then-not-is-segment : goal.returns-then-not-is-segment
-returns-then-not-is-segment c =
+pub returns-then-not-is_segment : goal.returns-then-not-is_segment
+returns-then-not-is_segment c =
     let skipped = c.loop-reader-test.ensures in
     let e = segment-read (standing c.loop-reader.reader) (standing c.skip.new.self) (standing c.until.new.self) (sym skipped.value) skipped.place c.until.ensures.place in
     grind (arith, nat_tests)

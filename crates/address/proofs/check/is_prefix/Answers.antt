@@ -9,14 +9,14 @@ pub returns-then-bytes-eq0 : goal.returns-then-bytes-eq0
 unfolding is_prefix
 returns-then-bytes-eq0 c = grind (arith, nat_tests)
 
-pub returns-then-is-scheme : goal.returns-then-is-scheme
+pub returns-then-is_scheme : goal.returns-then-is_scheme
 unfolding is_prefix
-returns-then-is-scheme c =
+returns-then-is_scheme c =
     let s = scheme-read c.args.bytes.now (standing c.new-reader.result) (standing c.until-scheme.new.self) c.new-reader.ensures c.until-scheme.ensures.place in
     grind (arith, nat_tests)
 
-pub returns-else-is-scheme : goal.returns-else-is-scheme
+pub returns-else-is_scheme : goal.returns-else-is_scheme
 unfolding is_prefix
-returns-else-is-scheme c =
+returns-else-is_scheme c =
     let s = scheme-read c.args.bytes.now (standing c.new-reader.result) (standing c.until-scheme.new.self) c.new-reader.ensures c.until-scheme.ensures.place in
     grind (arith, nat_tests)

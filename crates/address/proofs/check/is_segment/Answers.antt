@@ -4,8 +4,8 @@ use Rattle.std.proofs.lemmas.Bool.Decides.{nat_tests}
 use Rattle.address.specs.Addresses.{all_symbols}
 use Rattle.address.proofs.check.is_segment.Goals as goal
 
-pub returns-then-not-is-symbol : goal.returns-then-not-is-symbol
-returns-then-not-is-symbol c =
+pub returns-then-not-is_symbol : goal.returns-then-not-is_symbol
+returns-then-not-is_symbol c =
     let e = at_drop_more all_symbols c.args.part.now c.loop-b.b-index 0 (omega arith) in
     grind (arith, nat_tests)
 

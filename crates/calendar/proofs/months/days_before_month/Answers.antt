@@ -8,8 +8,8 @@ pub loop-past-init : goal.loop-past-init
 unfolding days_before_month total
 loop-past-init c = refl
 
-pub overflow-add-days : goal.overflow-add-days
-overflow-add-days c =
+pub overflow_add-days : goal.overflow_add-days
+overflow_add-days c =
     record { fits = omega (arith, month-within c.args.year c.loop-past.past (omega arith) (omega arith), year-small c.args.year) }
 
 pub loop-past-preserved : goal.loop-past-preserved

@@ -7,6 +7,6 @@ pub returns : goal.returns
 returns c =
     record {
       value = omega arith;
-      begun = omega (arith, estimate c.args.days, ap (λ n. days_before_year (1970 + n)) c.saturating-sub.ensures);
-      near = omega (arith, estimate-near c.args.days, ap (λ n. days_before_year (1970 + n + 3)) c.saturating-sub.ensures);
+      begun = omega (arith, estimate c.args.days, ap (λ n. days_before_year (1970 + n)) c.saturating_sub.ensures);
+      near = omega (arith, estimate-near c.args.days, ap (λ n. days_before_year (1970 + n + 3)) c.saturating_sub.ensures);
     }

@@ -14,7 +14,7 @@ returns c =
     record {
       value =
           sym
-          (year-counted c.loop-year.year (c.args.days - c.days-before-year-2.result) c.args.days (omega arith) (omega arith)
+          (year-counted c.loop-year.year (c.args.days - c.days_before_year-2.result) c.args.days (omega arith) (omega arith)
           (omega arith) (omega arith));
       within = omega arith;
     }

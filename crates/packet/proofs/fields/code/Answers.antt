@@ -3,13 +3,13 @@ use Rattle.std.proofs.lemmas.Bool.Decides.{nat_tests}
 use Rattle.packet.specs.Fields.{read_code}
 use Rattle.packet.proofs.fields.code.Goals as goal
 
-pub returns-in-err-bytes : goal.returns-in-err-bytes
+pub returns-in_err-bytes : goal.returns-in_err-bytes
 unfolding read_code
-returns-in-err-bytes c = search rules
+returns-in_err-bytes c = search rules
 
-pub returns-then-not-is-code : goal.returns-then-not-is-code
+pub returns-then-not-is_code : goal.returns-then-not-is_code
 unfolding read_code
-returns-then-not-is-code c = grind (arith, nat_tests)
+returns-then-not-is_code c = grind (arith, nat_tests)
 
 pub returns : goal.returns
 unfolding read_code

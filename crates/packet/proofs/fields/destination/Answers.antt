@@ -3,13 +3,13 @@ use Rattle.std.proofs.lemmas.Bool.Decides.{nat_tests}
 use Rattle.packet.specs.Fields.{read_destination}
 use Rattle.packet.proofs.fields.destination.Goals as goal
 
-pub returns-in-err-bytes : goal.returns-in-err-bytes
+pub returns-in_err-bytes : goal.returns-in_err-bytes
 unfolding read_destination
-returns-in-err-bytes c = search rules
+returns-in_err-bytes c = search rules
 
-pub returns-then-not-is-address : goal.returns-then-not-is-address
+pub returns-then-not-is_address : goal.returns-then-not-is_address
 unfolding read_destination
-returns-then-not-is-address c = grind (arith, nat_tests)
+returns-then-not-is_address c = grind (arith, nat_tests)
 
 pub returns : goal.returns
 unfolding read_destination

@@ -3,9 +3,9 @@ use Rattle.std.proofs.lemmas.Bool.Decides.{nat_tests}
 use Rattle.packet.specs.Fields.{read_expiry}
 use Rattle.packet.proofs.fields.expiry.Goals as goal
 
-pub returns-in-err-digits : goal.returns-in-err-digits
+pub returns-in_err-digits : goal.returns-in_err-digits
 unfolding read_expiry
-returns-in-err-digits c = search rules
+returns-in_err-digits c = search rules
 
 pub returns-in-Some : goal.returns-in-Some
 unfolding read_expiry

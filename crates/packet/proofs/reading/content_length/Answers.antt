@@ -3,9 +3,9 @@ use Rattle.std.proofs.lemmas.Bool.Decides.{nat_tests}
 use Rattle.packet.specs.Readers.{read_length}
 use Rattle.packet.proofs.reading.content_length.Goals as goal
 
-pub returns-in-err-n : goal.returns-in-err-n
+pub returns-in_err-n : goal.returns-in_err-n
 unfolding read_length
-returns-in-err-n c = search rules
+returns-in_err-n c = search rules
 
 pub returns-then-n-left : goal.returns-then-n-left
 unfolding read_length

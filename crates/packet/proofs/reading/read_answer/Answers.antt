@@ -7,5 +7,5 @@ use Rattle.packet.proofs.reading.read_answer.Goals as goal
 pub returns : goal.returns
 unfolding read_as
 returns c =
-    let told = read_back answer_of answer_kind c.args.bytes.now c.parse-answer.result (λ i. omega (arith, c.type-inv.bytes i)) c.parse-answer.ensures in
-    record { value = c.parse-answer.ensures; encoding = told.0; fits = told.1; one-encoding = one-encoding }
+    let told = read_back answer_of answer_kind c.args.bytes.now c.parse_answer.result (λ i. omega (arith, c.type_inv.bytes i)) c.parse_answer.ensures in
+    record { value = c.parse_answer.ensures; encoding = told.0; fits = told.1; one-encoding = one-encoding }

@@ -7,5 +7,5 @@ use Rattle.packet.proofs.reading.read_packet.Goals as goal
 pub returns : goal.returns
 unfolding read_as
 returns c =
-    let told = read_back packet_of any_kind c.args.bytes.now c.parse-packet.result (λ i. omega (arith, c.type-inv.bytes i)) c.parse-packet.ensures in
-    record { value = c.parse-packet.ensures; encoding = told.0; fits = told.1; one-encoding = one-encoding }
+    let told = read_back packet_of any_kind c.args.bytes.now c.parse_packet.result (λ i. omega (arith, c.type_inv.bytes i)) c.parse_packet.ensures in
+    record { value = c.parse_packet.ensures; encoding = told.0; fits = told.1; one-encoding = one-encoding }

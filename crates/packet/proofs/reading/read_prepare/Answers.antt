@@ -6,5 +6,5 @@ use Rattle.packet.proofs.reading.read_prepare.Goals as goal
 pub returns : goal.returns
 unfolding read_as
 returns c =
-    let told = read_back prepare_value prepare_kind c.args.bytes.now c.parse-prepare.result (λ i. omega (arith, c.type-inv.bytes i)) c.parse-prepare.ensures in
-    record { value = c.parse-prepare.ensures; encoding = told.0; fits = told.1; one-encoding = one-encoding }
+    let told = read_back prepare_value prepare_kind c.args.bytes.now c.parse_prepare.result (λ i. omega (arith, c.type_inv.bytes i)) c.parse_prepare.ensures in
+    record { value = c.parse_prepare.ensures; encoding = told.0; fits = told.1; one-encoding = one-encoding }

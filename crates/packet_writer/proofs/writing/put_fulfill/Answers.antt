@@ -10,8 +10,8 @@ pub returns : goal.returns
 unfolding packet_bytes
 returns c =
     let v = fulfill_of c.args.f.now in
-    let long : 32 + c.field-size.result ≡ length (fulfill_bytes v) = simp length-append (omega arith) in
-    let content = wrote_then (omega arith) c.put-at-2.ensures.wrote c.put-field.ensures.wrote in
-    let sized = wrote_then (omega arith) c.put-determinant-at.ensures.wrote content in
+    let long : 32 + c.field_size.result ≡ length (fulfill_bytes v) = simp length-append (omega arith) in
+    let content = wrote_then (omega arith) c.put-at-2.ensures.wrote c.put_field.ensures.wrote in
+    let sized = wrote_then (omega arith) c.put_determinant-at.ensures.wrote content in
     let all = wrote_then (omega arith) c.put-at.ensures.wrote sized in
     written (wrote_as (ap (λ k. 0x0D ∷ determinant_of k ++ fulfill_bytes v) long) all)

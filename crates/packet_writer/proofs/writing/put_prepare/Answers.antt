@@ -11,14 +11,14 @@ pub returns : goal.returns
 unfolding amount_bytes packet_bytes
 returns c =
     let v = prepare_of c.args.p.now in
-    let content = 57 + c.field-size.result + c.field-size-2.result in
+    let content = 57 + c.field_size.result + c.field_size-2.result in
     let long : content ≡ length (prepare_bytes v) = simp (length-append, one-timestamp.seventeen) (omega arith) in
-    let amount = wrote_as c.to-be-bytes.ensures c.put-at-2.ensures.wrote in
+    let amount = wrote_as c.to_be_bytes.ensures c.put-at-2.ensures.wrote in
     let digits = wrote_as c.requires.digits c.put-at-3.ensures.wrote in
-    let last = wrote_then (omega arith) c.put-field-at.ensures.wrote c.put-field.ensures.wrote in
+    let last = wrote_then (omega arith) c.put_field-at.ensures.wrote c.put_field.ensures.wrote in
     let fourth = wrote_then (omega arith) c.put-at-4.ensures.wrote last in
     let third = wrote_then (omega arith) digits fourth in
     let second = wrote_then (omega arith) amount third in
-    let sized = wrote_then (omega arith) c.put-determinant-at.ensures.wrote second in
+    let sized = wrote_then (omega arith) c.put_determinant-at.ensures.wrote second in
     let all = wrote_then (omega arith) c.put-at.ensures.wrote sized in
     written (wrote_as (ap (λ k. 0x0C ∷ determinant_of k ++ prepare_bytes v) long) all)

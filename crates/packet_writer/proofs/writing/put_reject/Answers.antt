@@ -10,11 +10,11 @@ pub returns : goal.returns
 unfolding packet_bytes
 returns c =
     let v = reject_of c.args.r.now in
-    let content = 3 + c.field-size.result + c.field-size-2.result + c.field-size-3.result in
+    let content = 3 + c.field_size.result + c.field_size-2.result + c.field_size-3.result in
     let long : content ≡ length (reject_bytes v) = simp length-append (omega arith) in
-    let last = wrote_then (omega arith) c.put-field-at-2.ensures.wrote c.put-field.ensures.wrote in
-    let third = wrote_then (omega arith) c.put-field-at.ensures.wrote last in
+    let last = wrote_then (omega arith) c.put_field-at-2.ensures.wrote c.put_field.ensures.wrote in
+    let third = wrote_then (omega arith) c.put_field-at.ensures.wrote last in
     let second = wrote_then (omega arith) c.put-at-2.ensures.wrote third in
-    let sized = wrote_then (omega arith) c.put-determinant-at.ensures.wrote second in
+    let sized = wrote_then (omega arith) c.put_determinant-at.ensures.wrote second in
     let all = wrote_then (omega arith) c.put-at.ensures.wrote sized in
     written (wrote_as (ap (λ k. 0x0E ∷ determinant_of k ++ reject_bytes v) long) all)

@@ -3,8 +3,8 @@ use Rattle.std.proofs.lemmas.Bool.Decides.{nat_tests}
 use Rattle.address.proofs.Split.{address-short}
 use Rattle.packet_writer.proofs.writing.try_prepare.Goals as goal
 
-pub put-prepare-requires : goal.put-prepare-requires
-put-prepare-requires c =
-    let fits = c.prepare-fits.ensures.0 c.if-not-prepare-fits.false in
+pub put_prepare-requires : goal.put_prepare-requires
+put_prepare-requires c =
+    let fits = c.prepare_fits.ensures.0 c.if-not-prepare_fits.false in
     let written = c.in-Some.ensures in
     record { fits = fits; room = omega arith; digits = grind (arith, nat_tests); short = address-short _ fits.destination }

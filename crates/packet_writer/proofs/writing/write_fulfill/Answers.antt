@@ -4,4 +4,4 @@ use Rattle.packet_writer.proofs.Back.{write-back}
 use Rattle.packet_writer.proofs.writing.write_fulfill.Goals as goal
 
 pub returns : goal.returns
-returns c = record { writes = c.try-fulfill.ensures; back = write-back answer_kind _ _ _ c.try-fulfill.result refl c.try-fulfill.ensures }
+returns c = record { writes = c.try_fulfill.ensures; back = write-back answer_kind _ _ _ c.try_fulfill.result refl c.try_fulfill.ensures }

@@ -4,4 +4,4 @@ use Rattle.packet_writer.proofs.Back.{write-back}
 use Rattle.packet_writer.proofs.writing.write_packet.Goals as goal
 
 pub returns : goal.returns
-returns c = record { writes = c.try-packet.ensures; back = write-back any_kind _ _ _ c.try-packet.result refl c.try-packet.ensures }
+returns c = record { writes = c.try_packet.ensures; back = write-back any_kind _ _ _ c.try_packet.result refl c.try_packet.ensures }

@@ -4,4 +4,4 @@ use Rattle.packet_writer.proofs.Back.{write-back}
 use Rattle.packet_writer.proofs.writing.write_reject.Goals as goal
 
 pub returns : goal.returns
-returns c = record { writes = c.try-reject.ensures; back = write-back answer_kind _ _ _ c.try-reject.result refl c.try-reject.ensures }
+returns c = record { writes = c.try_reject.ensures; back = write-back answer_kind _ _ _ c.try_reject.result refl c.try_reject.ensures }

@@ -5,13 +5,13 @@ use Rattle.routing.specs.Routes.{each_fits}
 use Rattle.routing.proofs.Given.{each_next}
 use Rattle.routing.proofs.check.each_fits.Goals as goal
 
-pub returns-then-not-route-fits : goal.returns-then-not-route-fits
-returns-then-not-route-fits c =
-    sym (each_next _ c.args.routes.now c.loop-route.route-index _ _ c.loop-route-test.true c.if-not-route-fits.ensures) ∙ c.loop-route.invariant
+pub returns-then-not-route_fits : goal.returns-then-not-route_fits
+returns-then-not-route_fits c =
+    sym (each_next _ c.args.routes.now c.loop-route.route-index _ _ c.loop-route-test.true c.if-not-route_fits.ensures) ∙ c.loop-route.invariant
 
 pub loop-route-preserved : goal.loop-route-preserved
 loop-route-preserved c =
-    sym (each_next _ c.args.routes.now c.loop-route.route-index _ _ c.loop-route-test.true c.if-not-route-fits.ensures) ∙ c.loop-route.invariant
+    sym (each_next _ c.args.routes.now c.loop-route.route-index _ _ c.loop-route-test.true c.if-not-route_fits.ensures) ∙ c.loop-route.invariant
 
 pub returns : goal.returns
 returns c =

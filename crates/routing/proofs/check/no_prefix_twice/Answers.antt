@@ -5,11 +5,11 @@ use Rattle.routing.specs.Routes.{no_prefix_twice}
 use Rattle.routing.proofs.Given.{twice-next}
 use Rattle.routing.proofs.check.no_prefix_twice.Goals as goal
 
-pub returns-then-has-prefix : goal.returns-then-has-prefix
-returns-then-has-prefix c = sym (twice-next c.args.routes.now c.loop-i.i _ _ c.loop-i-test.true c.if-has-prefix.ensures) ∙ c.loop-i.invariant
+pub returns-then-has_prefix : goal.returns-then-has_prefix
+returns-then-has_prefix c = sym (twice-next c.args.routes.now c.loop-i.i _ _ c.loop-i-test.true c.if-has_prefix.ensures) ∙ c.loop-i.invariant
 
 pub loop-i-preserved : goal.loop-i-preserved
-loop-i-preserved c = sym (twice-next c.args.routes.now c.loop-i.i _ _ c.loop-i-test.true c.if-has-prefix.ensures) ∙ c.loop-i.invariant
+loop-i-preserved c = sym (twice-next c.args.routes.now c.loop-i.i _ _ c.loop-i-test.true c.if-has_prefix.ensures) ∙ c.loop-i.invariant
 
 pub returns : goal.returns
 returns c =

@@ -5,14 +5,14 @@ use Rattle.routing.specs.Entries.{given_route}
 use Rattle.routing.specs.Routes.{routes_fit}
 use Rattle.routing.proofs.check.routes_fit.Goals as goal
 
-pub returns-then-each-fits : goal.returns-then-each-fits
+pub returns-then-each_fits : goal.returns-then-each_fits
 unfolding routes_fit
-returns-then-each-fits c =
+returns-then-each_fits c =
     let n = length-map c.args.routes.now given_route in
     grind (arith, nat_tests)
 
-pub returns-else-each-fits : goal.returns-else-each-fits
+pub returns-else-each_fits : goal.returns-else-each_fits
 unfolding routes_fit
-returns-else-each-fits c =
+returns-else-each_fits c =
     let n = length-map c.args.routes.now given_route in
     grind (arith, nat_tests)

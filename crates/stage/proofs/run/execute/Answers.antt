@@ -12,12 +12,12 @@ returns g c =
     let held = g.S.Stage.held in
     let rule = g.S.Stage.rule in
     let s = c.args.stage.now in
-    let t = c.execute-all.new.stage in
+    let t = c.execute_all.new.stage in
     let keeps = runs-keep held rule g.met.S.Stage.once in
     record {
-      run = c.execute-all.ensures;
+      run = c.execute_all.ensures;
       numbers =
           cases-then (λ v. Run held rule s c.args.changes.now (vec_items v) t) (λ v. held t ≡ open_since (held s) c.args.changes.now (vec_items v)) (λ _. t ≡ s)
-          c.execute-all.result (λ v r. (keeps s t c.args.changes.now (vec_items v) r).0) c.execute-all.ensures;
+          c.execute_all.result (λ v r. (keeps s t c.args.changes.now (vec_items v) r).0) c.execute_all.ensures;
       every-run = keeps;
     }

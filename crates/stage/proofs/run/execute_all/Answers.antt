@@ -12,7 +12,7 @@ loop-change-preserved g c =
     let done = c.loop-change.change-index in
     let step = subst (λ x. Step held rule before x c.apply-answer.result after) c.change-item.is c.apply-answer.ensures in
     let more = run-next held rule c.args.stage.now before after c.args.changes.now (vec_items c.loop-change.answers) done c.change-item.result c.apply-answer.result c.loop-change-test.true c.loop-change.invariant.0 step in (
-      subst (λ items. Run held rule c.args.stage.now (take (done + 1) c.args.changes.now) items after) (sym c.push-reserved.ensures.items) more,
+      subst (λ items. Run held rule c.args.stage.now (take (done + 1) c.args.changes.now) items after) (sym c.push_reserved.ensures.items) more,
       omega arith,
       omega arith,
     )

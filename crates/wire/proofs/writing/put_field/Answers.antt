@@ -4,6 +4,6 @@ use Rattle.wire.proofs.writing.put_field.Goals as goal
 
 pub returns : goal.returns
 returns c = record {
-  wrote = wrote_then (omega arith) c.put-determinant-at.ensures.wrote c.put.ensures.wrote;
+  wrote = wrote_then (omega arith) c.put_determinant-at.ensures.wrote c.put.ensures.wrote;
   place = omega arith;
 }

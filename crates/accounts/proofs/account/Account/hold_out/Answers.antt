@@ -5,11 +5,11 @@ use Rattle.accounts.specs.Views.{figures_of}
 use Rattle.accounts.proofs.Limited.{refuses-out}
 use Rattle.accounts.proofs.account.Account.hold_out.Goals as goal
 
-pub returns-then-amount-room-out : goal.returns-then-amount-room-out
-returns-then-amount-room-out c = when_false _ _ (refuses-out c.args.amount (figures_of c.args.self) (omega (arith, ints)))
+pub returns-then-amount-room_out : goal.returns-then-amount-room_out
+returns-then-amount-room_out c = when_false _ _ (refuses-out c.args.amount (figures_of c.args.self) (omega (arith, ints)))
 
-pub overflow-add-result : goal.overflow-add-result
-overflow-add-result c = record { fits = omega (arith, ints) }
+pub overflow_add-result : goal.overflow_add-result
+overflow_add-result c = record { fits = omega (arith, ints) }
 
-pub invariant-of-result : goal.invariant-of-result
-invariant-of-result c = (omega (arith, ints), (omega (arith, ints), (c.args.self.high, (c.args.self.low, tt))))
+pub invariant_of-result : goal.invariant_of-result
+invariant_of-result c = (omega (arith, ints), (omega (arith, ints), (c.args.self.high, (c.args.self.low, tt))))

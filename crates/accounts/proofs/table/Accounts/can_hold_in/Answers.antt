@@ -6,6 +6,6 @@ use Rattle.accounts.proofs.table.Accounts.can_hold_in.Goals as goal
 
 pub returns-then-has : goal.returns-then-has
 returns-then-has c =
-    told_in c.args.amount c.room-in.result (figures_of c.at.result) c.room-in.ensures
+    told_in c.args.amount c.room_in.result (figures_of c.at.result) c.room_in.ensures
     ∙ ap (takes_in c.args.amount) c.at.ensures
     ∙ ap (λ b. b && takes_in c.args.amount (get_or (figures_list c.args.self.now) c.args.account unset)) c.if-has.ensures

@@ -11,9 +11,9 @@ returns c =
     let h = c.args.hold in
     let paid = c.args.fulfilled in
     let xs = figures_list c.args.self.now in
-    let two = sym c.if-not-has-two.ensures in
+    let two = sym c.if-not-has_two.ensures in
     let in-ended = some-when _ _ _ c.in-Some.ensures in
-    let out-ended = some-when _ _ _ c.in-Some-end-out.ensures in
+    let out-ended = some-when _ _ _ c.in-Some-end_out.ensures in
     let holds-in = ap (holds_in h.amount_in) (sym c.at.ensures) ∙ in-ended.0 in
     let holds-out = ap (holds_out h.amount_out) (sym c.at-2.ensures) ∙ out-ended.0 in
     record {
@@ -21,7 +21,7 @@ returns c =
       figures =
           two-adjusted h.sender h.outgoing (end_in paid h.amount_in) (end_out paid h.amount_out) xs
           (figures_list c.put.new.self) (figures_list c.put-2.new.self) (figures_of c.at.result) (figures_of c.at-2.result)
-          (figures_of c.in-Some.sender) (figures_of c.in-Some-end-out.outgoing) (two_from xs h two).apart c.at.ensures c.at-2.ensures
+          (figures_of c.in-Some.sender) (figures_of c.in-Some-end_out.outgoing) (two_from xs h two).apart c.at.ensures c.at-2.ensures
           in-ended.1 out-ended.1 c.put.ensures c.put-2.ensures;
       unchanged = λ never. absurd (true≢false never);
     }

@@ -5,8 +5,8 @@ use Rattle.accounts.specs.Views.{figures_list}
 use Rattle.accounts.proofs.Rows.{each_set, take-set-any, account-keeps}
 use Rattle.accounts.proofs.table.Accounts.put.Goals as goal
 
-pub invariant-of-self : goal.invariant-of-self
-invariant-of-self c =
+pub invariant_of-self : goal.invariant_of-self
+invariant_of-self c =
     let t = c.args.self.now in
     let f = c.figures.result in
     let keeps = subst Keeps (sym c.figures.ensures) (account-keeps c.args.value) in (

@@ -9,10 +9,10 @@ use Rattle.accounts.specs.Ways.{way_number}
 use Rattle.accounts.proofs.Answered.{some-when, none-when}
 use Rattle.accounts.proofs.table.Accounts.settle.Goals as goal
 
-pub returns-in-err-after : goal.returns-in-err-after
-returns-in-err-after c =
+pub returns-in_err-after : goal.returns-in_err-after
+returns-in_err-after c =
     let way = way_number c.args.way in
-    let refused = ap (can_settle way c.args.amount) (sym c.at.ensures) ∙ none-when _ _ c.in-err-after.ensures in
+    let refused = ap (can_settle way c.args.amount) (sym c.at.ensures) ∙ none-when _ _ c.in_err-after.ensures in
     record {
       answer = c.from-residual.ensures ∙ when_false _ _ (and_right _ _ refused);
       figures = sym (cond-false _ _ _ (ap is_some c.from-residual.ensures));
@@ -24,7 +24,7 @@ returns c =
     let way = way_number c.args.way in
     let m = c.args.amount in
     let there = sym c.if-not-has.ensures in
-    let made = some-when _ _ _ c.in-ok-after.ensures in
+    let made = some-when _ _ _ c.in_ok-after.ensures in
     let can = ap (can_settle way m) (sym c.at.ensures) ∙ made.0 in
     let after = made.1 ∙ ap (settled way m) c.at.ensures in
     let fits : SFits w64 c.figures.result.balance = search rules in

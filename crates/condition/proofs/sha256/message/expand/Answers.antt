@@ -10,7 +10,7 @@ loop-t-init c = (refl, refl)
 
 pub loop-t-preserved : goal.loop-t-preserved
 loop-t-preserved c = (
-  schedule-step c.args.block.now c.loop-t.w c.loop-t.t _ (omega arith) c.loop-t.invariant.0 c.schedule-word.ensures,
+  schedule-step c.args.block.now c.loop-t.w c.loop-t.t _ (omega arith) c.loop-t.invariant.0 c.schedule_word.ensures,
   simp length-set c.loop-t.invariant.1,
 )
 

@@ -11,7 +11,7 @@ loop-i-init c = (refl, refl)
 
 pub loop-i-preserved : goal.loop-i-preserved
 loop-i-preserved c = (
-  bytes-step c.loop-i.out _ c.copy-from-slice.new.self c.loop-i.i _ c.loop-i-test.true (omega arith) c.loop-i.invariant.0 (cc),
+  bytes-step c.loop-i.out _ c.copy_from_slice.new.self c.loop-i.i _ c.loop-i-test.true (omega arith) c.loop-i.invariant.0 (cc),
   search (rules, overwrites),
 )
 

@@ -20,11 +20,11 @@ returns-then-buffer-lt-LONGEST-PACKET g c =
       unchanged = refl;
     }
 
-pub returns-then-not-has-account : goal.returns-then-not-has-account
-returns-then-not-has-account g c =
+pub returns-then-not-has_account : goal.returns-then-not-has_account
+returns-then-not-has_account g c =
     let k = c.args.self.now in
     record {
-      does = refused-so g.S.Stage.held (set_up_of k) (books_of k) k.stages _ _ _ (answer-nobody g.H.ConditionHash.digest_of (books_of k) _ c.args.account c.args.number c.args.time _ (omega arith) c.if-not-has-account.ensures);
+      does = refused-so g.S.Stage.held (set_up_of k) (books_of k) k.stages _ _ _ (answer-nobody g.H.ConditionHash.digest_of (books_of k) _ c.args.account c.args.number c.args.time _ (omega arith) c.if-not-has_account.ensures);
       kept = record { routes = refl; own = refl; hash = refl };
       unchanged = refl;
     }
@@ -33,28 +33,28 @@ pub returns-then-time-gt-LAST-INSTANT : goal.returns-then-time-gt-LAST-INSTANT
 returns-then-time-gt-LAST-INSTANT g c =
     let k = c.args.self.now in
     record {
-      does = refused-so g.S.Stage.held (set_up_of k) (books_of k) k.stages _ _ _ (answer-never g.H.ConditionHash.digest_of (books_of k) _ c.args.account c.args.number c.args.time _ (omega arith) c.if-not-has-account.ensures (omega arith));
+      does = refused-so g.S.Stage.held (set_up_of k) (books_of k) k.stages _ _ _ (answer-never g.H.ConditionHash.digest_of (books_of k) _ c.args.account c.args.number c.args.time _ (omega arith) c.if-not-has_account.ensures (omega arith));
       kept = record { routes = refl; own = refl; hash = refl };
       unchanged = refl;
     }
 
-pub returns-in-default : goal.returns-in-default
-returns-in-default g c =
+pub returns-in_default : goal.returns-in_default
+returns-in_default g c =
     let k = c.args.self.now in
     record {
-      does = refused-so g.S.Stage.held (set_up_of k) (books_of k) k.stages _ _ _ (answer-by g.H.ConditionHash.digest_of (books_of k) _ c.args.account c.args.number c.args.time _ _ (omega arith) c.if-not-has-account.ensures (omega arith) c.in-default.ensures);
+      does = refused-so g.S.Stage.held (set_up_of k) (books_of k) k.stages _ _ _ (answer-by g.H.ConditionHash.digest_of (books_of k) _ c.args.account c.args.number c.args.time _ _ (omega arith) c.if-not-has_account.ensures (omega arith) c.in_default.ensures);
       kept = record { routes = refl; own = refl; hash = refl };
       unchanged = refl;
     }
 
-pub returns-then-not-is-theirs : goal.returns-then-not-is-theirs
-returns-then-not-is-theirs g c =
+pub returns-then-not-is_theirs : goal.returns-then-not-is_theirs
+returns-then-not-is_theirs g c =
     let k = c.args.self.now in
     let d = g.H.ConditionHash.digest_of in
     record {
       does = refused-so g.S.Stage.held (set_up_of k) (books_of k) k.stages _ _ _
-          (answer-by d (books_of k) _ c.args.account c.args.number c.args.time _ _ (omega arith) c.if-not-has-account.ensures (omega arith) c.in-Some.ensures
-          ∙ not-theirs d (books_of k) 0 c.args.account 0 c.args.time _ c.in-Some.row (sym c.if-not-is-theirs.ensures));
+          (answer-by d (books_of k) _ c.args.account c.args.number c.args.time _ _ (omega arith) c.if-not-has_account.ensures (omega arith) c.in-Some.ensures
+          ∙ not-theirs d (books_of k) 0 c.args.account 0 c.args.time _ c.in-Some.row (sym c.if-not-is_theirs.ensures));
       kept = record { routes = refl; own = refl; hash = refl };
       unchanged = refl;
     }
@@ -65,8 +65,8 @@ returns-in-Err g c =
     let d = g.H.ConditionHash.digest_of in
     record {
       does = refused-so g.S.Stage.held (set_up_of k) (books_of k) k.stages _ _ _
-          (answer-by d (books_of k) _ c.args.account c.args.number c.args.time _ _ (omega arith) c.if-not-has-account.ensures (omega arith) c.in-Some.ensures
-          ∙ theirs d (books_of k) 0 c.args.account 0 c.args.time _ c.in-Some.row _ (sym c.if-not-is-theirs.ensures) (answer-read _ (Err c.in-Err.fault) c.in-Err.ensures.value));
+          (answer-by d (books_of k) _ c.args.account c.args.number c.args.time _ _ (omega arith) c.if-not-has_account.ensures (omega arith) c.in-Some.ensures
+          ∙ theirs d (books_of k) 0 c.args.account 0 c.args.time _ c.in-Some.row _ (sym c.if-not-is_theirs.ensures) (answer-read _ (Err c.in-Err.fault) c.in-Err.ensures.value));
       kept = record { routes = refl; own = refl; hash = refl };
       unchanged = refl;
     }
@@ -94,8 +94,8 @@ returns g c =
     record {
       does =
           turned_so g.S.Stage.held
-          (answer-by d (books_of k) _ c.args.account c.args.number c.args.time _ _ (omega arith) c.if-not-has-account.ensures (omega arith) c.in-Some.ensures
-          ∙ theirs d (books_of k) 0 c.args.account 0 c.args.time w r _ (sym c.if-not-is-theirs.ensures) (answer-read w (Ok c.in-Ok.answer) c.in-Ok.ensures.value)
+          (answer-by d (books_of k) _ c.args.account c.args.number c.args.time _ _ (omega arith) c.if-not-has_account.ensures (omega arith) c.in-Some.ensures
+          ∙ theirs d (books_of k) 0 c.args.account 0 c.args.time w r _ (sym c.if-not-is_theirs.ensures) (answer-read w (Ok c.in-Ok.answer) c.in-Ok.ensures.value)
           ∙ ap (ends (time_at (books_of k) c.args.time) r) (sym same))
           (record {
             answer = ap ended e.value;

@@ -23,20 +23,20 @@ none_told : (b : Bool) (n : ℕ) → None ≡ then_some b n → b ≡ false
 none_told true n e = let z : ◌≡◌ {A = ℕ} 0 1 = cc in absurd (omega arith)
 none_told false n e = refl
 
-pub returns-in-default : goal.returns-in-default
-returns-in-default g c =
+pub returns-in_default : goal.returns-in_default
+returns-in_default g c =
     let k = c.args.self.now in
     record {
-      value = λ q. by_parts _ _ q _ _ c.plain.ensures ∙ no_number (g.S.Stage.rule k.stages) (set_up_of k) (books_of k) c.args.account q (prepare_of c.args.prepare.now) (none_told (has_number (books_of k)) ((books_of k).last + 1) c.in-default.ensures);
+      value = λ q. by_parts _ _ q _ _ c.plain.ensures ∙ no_number (g.S.Stage.rule k.stages) (set_up_of k) (books_of k) c.args.account q (prepare_of c.args.prepare.now) (none_told (has_number (books_of k)) ((books_of k).last + 1) c.in_default.ensures);
       ready = tt;
     }
 
-pub returns-then-is-full : goal.returns-then-is-full
-returns-then-is-full g c =
+pub returns-then-is_full : goal.returns-then-is_full
+returns-then-is_full g c =
     let k = c.args.self.now in
     let n = told-some (has_number (books_of k)) ((books_of k).last + 1) c.in-Some.number c.in-Some.ensures in
     record {
-      value = λ q. by_parts _ _ q _ _ c.plain-then-is-full.ensures ∙ full (g.S.Stage.rule k.stages) (set_up_of k) (books_of k) c.args.account q (prepare_of c.args.prepare.now) n.0 c.if-is-full.ensures;
+      value = λ q. by_parts _ _ q _ _ c.plain-then-is_full.ensures ∙ full (g.S.Stage.rule k.stages) (set_up_of k) (books_of k) c.args.account q (prepare_of c.args.prepare.now) n.0 c.if-is_full.ensures;
       ready = tt;
     }
 
@@ -45,43 +45,43 @@ returns-then-prepare-time g c =
     let k = c.args.self.now in
     let n = told-some (has_number (books_of k)) ((books_of k).last + 1) c.in-Some.number c.in-Some.ensures in
     record {
-      value = λ q. by_parts _ _ q _ _ c.plain-then-prepare-time.ensures ∙ late (g.S.Stage.rule k.stages) (set_up_of k) (books_of k) c.args.account q (prepare_of c.args.prepare.now) n.0 c.if-is-full.ensures (omega (arith, c.time-time.ensures));
+      value = λ q. by_parts _ _ q _ _ c.plain-then-prepare-time.ensures ∙ late (g.S.Stage.rule k.stages) (set_up_of k) (books_of k) c.args.account q (prepare_of c.args.prepare.now) n.0 c.if-is_full.ensures (omega (arith, c.time-time.ensures));
       ready = tt;
     }
 
-pub returns-in-default-find : goal.returns-in-default-find
-returns-in-default-find g c =
+pub returns-in_default-find : goal.returns-in_default-find
+returns-in_default-find g c =
     let k = c.args.self.now in
     let n = told-some (has_number (books_of k)) ((books_of k).last + 1) c.in-Some.number c.in-Some.ensures in
     record {
       value = λ q.
-          by_parts _ _ q _ _ c.plain-in-default-find.ensures
+          by_parts _ _ q _ _ c.plain-in_default-find.ensures
           ∙ on-route (g.S.Stage.rule k.stages) (set_up_of k) (books_of k) c.args.account q (prepare_of c.args.prepare.now)
-          (record { number = n.0; room = c.if-is-full.ensures; timely-yet = omega (arith, c.time-time.ensures) }) None c.in-default-find.ensures.value;
+          (record { number = n.0; room = c.if-is_full.ensures; timely-yet = omega (arith, c.time-time.ensures) }) None c.in_default-find.ensures.value;
       ready = tt;
     }
 
-pub returns-in-default-new : goal.returns-in-default-new
-returns-in-default-new g c =
+pub returns-in_default-new : goal.returns-in_default-new
+returns-in_default-new g c =
     let k = c.args.self.now in
     let n = told-some (has_number (books_of k)) ((books_of k).last + 1) c.in-Some.number c.in-Some.ensures in
     record {
       value = λ q.
-          by_parts _ _ q _ _ c.plain-in-default-new.ensures
+          by_parts _ _ q _ _ c.plain-in_default-new.ensures
           ∙ paired (g.S.Stage.rule k.stages) (set_up_of k) (books_of k) c.args.account q (prepare_of c.args.prepare.now)
-          (record { number = n.0; room = c.if-is-full.ensures; timely-yet = omega (arith, c.time-time.ensures) }) c.in-Some-find.to None c.in-Some-find.ensures.value (pair_is c.args.account c.in-Some-find.to None c.in-default-new.ensures);
+          (record { number = n.0; room = c.if-is_full.ensures; timely-yet = omega (arith, c.time-time.ensures) }) c.in-Some-find.to None c.in-Some-find.ensures.value (pair_is c.args.account c.in-Some-find.to None c.in_default-new.ensures);
       ready = tt;
     }
 
-pub returns-then-not-can-hold-in : goal.returns-then-not-can-hold-in
-returns-then-not-can-hold-in g c =
+pub returns-then-not-can_hold_in : goal.returns-then-not-can_hold_in
+returns-then-not-can_hold_in g c =
     let k = c.args.self.now in
     let n = told-some (has_number (books_of k)) ((books_of k).last + 1) c.in-Some.number c.in-Some.ensures in
     record {
       value = λ q.
-          by_parts _ _ q _ _ c.plain-then-not-can-hold-in.ensures
+          by_parts _ _ q _ _ c.plain-then-not-can_hold_in.ensures
           ∙ no-credit-in (g.S.Stage.rule k.stages) (set_up_of k) (books_of k) c.args.account q (prepare_of c.args.prepare.now)
-          (record { number = n.0; room = c.if-is-full.ensures; timely-yet = omega (arith, c.time-time.ensures) }) c.in-Some-find.to c.in-Some-new.accounts c.in-Some-find.ensures.value (pair_is c.args.account c.in-Some-find.to (Some c.in-Some-new.accounts) c.in-Some-new.ensures) c.if-not-can-hold-in.ensures;
+          (record { number = n.0; room = c.if-is_full.ensures; timely-yet = omega (arith, c.time-time.ensures) }) c.in-Some-find.to c.in-Some-new.accounts c.in-Some-find.ensures.value (pair_is c.args.account c.in-Some-find.to (Some c.in-Some-new.accounts) c.in-Some-new.ensures) c.if-not-can_hold_in.ensures;
       ready = tt;
     }
 
@@ -94,29 +94,29 @@ returns-in-Reject g c =
     record {
       value = λ q.
           looked look (set_up_of k) (books_of k) c.args.account q p
-          (record { number = n.0; room = c.if-is-full.ensures; timely-yet = omega (arith, c.time-time.ensures) }) c.in-Some-find.to c.in-Some-new.accounts (Reject c.in-Reject.rejected) c.in-Some-find.ensures.value (pair_is c.args.account c.in-Some-find.to (Some c.in-Some-new.accounts) c.in-Some-new.ensures) c.if-not-can-hold-in.ensures
+          (record { number = n.0; room = c.if-is_full.ensures; timely-yet = omega (arith, c.time-time.ensures) }) c.in-Some-find.to c.in-Some-new.accounts (Reject c.in-Reject.rejected) c.in-Some-find.ensures.value (pair_is c.args.account c.in-Some-find.to (Some c.in-Some-new.accounts) c.in-Some-new.ensures) c.if-not-can_hold_in.ensures
           (c.in-Reject.ensures ∙ offered-so look (set_up_of k) (books_of k) c.args.account q p c.in-Some-new.accounts c.in-Some.number c.time-time.result n.1 c.time-time.ensures);
       ready = tt;
     }
 
-pub returns-then-not-can-hold-out : goal.returns-then-not-can-hold-out
-returns-then-not-can-hold-out g c =
+pub returns-then-not-can_hold_out : goal.returns-then-not-can_hold_out
+returns-then-not-can_hold_out g c =
     let k = c.args.self.now in
     let look = g.S.Stage.rule k.stages in
     let p = prepare_of c.args.prepare.now in
     let n = told-some (has_number (books_of k)) ((books_of k).last + 1) c.in-Some.number c.in-Some.ensures in
     record {
       value = λ q.
-          by_parts _ _ q _ _ c.plain-then-not-can-hold-out.ensures
-          ∙ sym (ap (λ x. cond x (forwards (books_of k).time (next_row (books_of k) (reservation_for c.args.account q p c.in-Some-find.to c.in-Pass.passed)) (onward p c.in-Pass.passed.amount c.in-Pass.passed.expiry)) (plain_reject (books_of k).time c.args.account q code.InsufficientLiquidity)) (sym c.if-not-can-hold-out.ensures))
+          by_parts _ _ q _ _ c.plain-then-not-can_hold_out.ensures
+          ∙ sym (ap (λ x. cond x (forwards (books_of k).time (next_row (books_of k) (reservation_for c.args.account q p c.in-Some-find.to c.in-Pass.passed)) (onward p c.in-Pass.passed.amount c.in-Pass.passed.expiry)) (plain_reject (books_of k).time c.args.account q code.InsufficientLiquidity)) (sym c.if-not-can_hold_out.ensures))
           ∙ looked look (set_up_of k) (books_of k) c.args.account q p
-          (record { number = n.0; room = c.if-is-full.ensures; timely-yet = omega (arith, c.time-time.ensures) }) c.in-Some-find.to c.in-Some-new.accounts (Pass c.in-Pass.passed) c.in-Some-find.ensures.value (pair_is c.args.account c.in-Some-find.to (Some c.in-Some-new.accounts) c.in-Some-new.ensures) c.if-not-can-hold-in.ensures
+          (record { number = n.0; room = c.if-is_full.ensures; timely-yet = omega (arith, c.time-time.ensures) }) c.in-Some-find.to c.in-Some-new.accounts (Pass c.in-Pass.passed) c.in-Some-find.ensures.value (pair_is c.args.account c.in-Some-find.to (Some c.in-Some-new.accounts) c.in-Some-new.ensures) c.if-not-can_hold_in.ensures
           (c.in-Pass.ensures ∙ offered-so look (set_up_of k) (books_of k) c.args.account q p c.in-Some-new.accounts c.in-Some.number c.time-time.result n.1 c.time-time.ensures);
       ready = tt;
     }
 
-pub returns-else-not-can-hold-out : goal.returns-else-not-can-hold-out
-returns-else-not-can-hold-out g c =
+pub returns-else-not-can_hold_out : goal.returns-else-not-can_hold_out
+returns-else-not-can_hold_out g c =
     let k = c.args.self.now in
     let look = g.S.Stage.rule k.stages in
     let p = prepare_of c.args.prepare.now in
@@ -128,14 +128,14 @@ returns-else-not-can-hold-out g c =
     record {
       value = λ q.
           ap (λ o. forwards (books_of k).time (next_row (books_of k) (reservation_for c.args.account q p o v)) (onward p v.amount v.expiry)) both.1
-          ∙ sym (ap (λ y. cond y (forwards (books_of k).time (next_row (books_of k) (reservation_for c.args.account q p to v)) (onward p v.amount v.expiry)) (plain_reject (books_of k).time c.args.account q code.InsufficientLiquidity)) (sym c.if-not-can-hold-out.ensures))
+          ∙ sym (ap (λ y. cond y (forwards (books_of k).time (next_row (books_of k) (reservation_for c.args.account q p to v)) (onward p v.amount v.expiry)) (plain_reject (books_of k).time c.args.account q code.InsufficientLiquidity)) (sym c.if-not-can_hold_out.ensures))
           ∙ looked look (set_up_of k) (books_of k) c.args.account q p
-          (record { number = n.0; room = c.if-is-full.ensures; timely-yet = omega (arith, c.time-time.ensures) }) to x (Pass v) c.in-Some-find.ensures.value (pair_is c.args.account to (Some x) both) c.if-not-can-hold-in.ensures
+          (record { number = n.0; room = c.if-is_full.ensures; timely-yet = omega (arith, c.time-time.ensures) }) to x (Pass v) c.in-Some-find.ensures.value (pair_is c.args.account to (Some x) both) c.if-not-can_hold_in.ensures
           (c.in-Pass.ensures ∙ offered-so look (set_up_of k) (books_of k) c.args.account q p x c.in-Some.number c.time-time.result n.1 c.time-time.ensures);
       ready = (
         sym c.in-Pass.ensures,
         n.1,
         refl,
-        λ q. can-reserve (books_of k) c.args.account q x.outgoing 0 p v n.0 c.if-is-full.ensures c.if-not-can-hold-in.ensures (c.if-not-can-hold-out.ensures ∙ ap (λ o. can_hold_out (books_of k).accounts o v.amount) (sym both.1)) (λ e. x.apart (both.0 ∙ e)),
+        λ q. can-reserve (books_of k) c.args.account q x.outgoing 0 p v n.0 c.if-is_full.ensures c.if-not-can_hold_in.ensures (c.if-not-can_hold_out.ensures ∙ ap (λ o. can_hold_out (books_of k).accounts o v.amount) (sym both.1)) (λ e. x.apart (both.0 ∙ e)),
       );
     }

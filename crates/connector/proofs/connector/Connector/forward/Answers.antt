@@ -13,8 +13,8 @@ returns g c =
     let ready = c.requires.ready in
     let open-before = g.S.Stage.held k.stages in
     record {
-      value = same-forwarded _ _ _ _ _ _ _ _ ready.1 c.outgoing-to.ensures.value c.write-onward.ensures.end (c.new.ensures ∙ ready.1);
-      buffer = c.write-onward.ensures.is;
+      value = same-forwarded _ _ _ _ _ _ _ _ ready.1 c.outgoing-to.ensures.value c.write_onward.ensures.end (c.new.ensures ∙ ready.1);
+      buffer = c.write_onward.ensures.is;
       books = reserved-as (books_of k) c.args.account c.args.request c.outgoing-to.result (goes_to o) (prepare_of c.args.prepare.now) o.passed c.put.new.out c.reserve.result _
           c.outgoing-to.ensures.value
           (copied c.args.prepare.now.condition.now c.put.new.out _ 32 c.put.ensures.wrote.is c.requires.fits.condition c.put.auto.out)

@@ -36,11 +36,11 @@ returns-then-buffer-lt-LONGEST-PACKET g c =
       unchanged = refl;
     }
 
-pub returns-then-not-has-account : goal.returns-then-not-has-account
-returns-then-not-has-account g c =
+pub returns-then-not-has_account : goal.returns-then-not-has_account
+returns-then-not-has_account g c =
     let k = c.args.self.now in
     record {
-      does = refused-so g.S.Stage.held (set_up_of k) (books_of k) k.stages _ _ _ (prepare-nobody (g.S.Stage.rule k.stages) (set_up_of k) (books_of k) _ c.args.account c.args.request c.args.time _ (omega arith) c.if-not-has-account.ensures);
+      does = refused-so g.S.Stage.held (set_up_of k) (books_of k) k.stages _ _ _ (prepare-nobody (g.S.Stage.rule k.stages) (set_up_of k) (books_of k) _ c.args.account c.args.request c.args.time _ (omega arith) c.if-not-has_account.ensures);
       kept = record { routes = refl; own = refl; hash = refl };
       unchanged = refl;
     }
@@ -49,7 +49,7 @@ pub returns-then-time-gt-LAST-INSTANT : goal.returns-then-time-gt-LAST-INSTANT
 returns-then-time-gt-LAST-INSTANT g c =
     let k = c.args.self.now in
     record {
-      does = refused-so g.S.Stage.held (set_up_of k) (books_of k) k.stages _ _ _ (prepare-never (g.S.Stage.rule k.stages) (set_up_of k) (books_of k) _ c.args.account c.args.request c.args.time _ (omega arith) c.if-not-has-account.ensures (omega arith));
+      does = refused-so g.S.Stage.held (set_up_of k) (books_of k) k.stages _ _ _ (prepare-never (g.S.Stage.rule k.stages) (set_up_of k) (books_of k) _ c.args.account c.args.request c.args.time _ (omega arith) c.if-not-has_account.ensures (omega arith));
       kept = record { routes = refl; own = refl; hash = refl };
       unchanged = refl;
     }
@@ -58,11 +58,11 @@ pub returns-in-Err : goal.returns-in-Err
 returns-in-Err g c =
     let k = c.args.self.now in
     let look = g.S.Stage.rule k.stages in
-    let w = c.turn-away.ensures in
+    let w = c.turn_away.ensures in
     record {
       does =
           turned_so g.S.Stage.held
-          (prepare-by look (set_up_of k) (books_of k) _ c.args.account c.args.request c.args.time _ (Err c.in-Err.fault) (omega arith) c.if-not-has-account.ensures (omega arith) (prepare-read _ (Err c.in-Err.fault) c.in-Err.ensures.value))
+          (prepare-by look (set_up_of k) (books_of k) _ c.args.account c.args.request c.args.time _ (Err c.in-Err.fault) (omega arith) c.if-not-has_account.ensures (omega arith) (prepare-read _ (Err c.in-Err.fault) c.in-Err.ensures.value))
           (record {
             answer = ap rejected (same-turned _ _ _ (w.ended ∙ ap (λ (r : Rejected). ended_as c.args.account c.args.request (our_bytes (set_up_of k).own r.code r.first r.second)) c.plain-rejected.ensures) w.fault);
             books = c.advance.ensures;
@@ -78,11 +78,11 @@ returns-in-Err-decide g c =
     let k = c.args.self.now in
     let look = g.S.Stage.rule k.stages in
     let p = prepare_of c.in-Ok.prepare in
-    let w = c.turn-away-in-Err-decide.ensures in
+    let w = c.turn_away-in-Err-decide.ensures in
     record {
       does =
           turned_so g.S.Stage.held
-          (prepare-by look (set_up_of k) (books_of k) _ c.args.account c.args.request c.args.time _ (Ok p) (omega arith) c.if-not-has-account.ensures (omega arith) (prepare-read _ (Ok c.in-Ok.prepare) c.in-Ok.ensures.value)
+          (prepare-by look (set_up_of k) (books_of k) _ c.args.account c.args.request c.args.time _ (Ok p) (omega arith) c.if-not-has_account.ensures (omega arith) (prepare-read _ (Ok c.in-Ok.prepare) c.in-Ok.ensures.value)
           ∙ decided-at look (set_up_of k) (books_of k) _ c.args.account c.args.request c.args.time p (Err c.in-Err-decide.rejected) c.advance.ensures (c.in-Err-decide.ensures.value c.args.request))
           (record { answer = ap rejected (same-turned _ _ _ w.ended w.fault); books = c.advance.ensures; stack = refl; buffer-now = w.buffer });
       kept = record { routes = refl; own = refl; hash = refl };
@@ -103,7 +103,7 @@ returns-in-Ok-decide g c =
     record {
       does =
           turned_so g.S.Stage.held
-          (prepare-by look (set_up_of k) (books_of k) _ c.args.account c.args.request c.args.time _ (Ok p) (omega arith) c.if-not-has-account.ensures (omega arith) (prepare-read _ (Ok c.in-Ok.prepare) c.in-Ok.ensures.value)
+          (prepare-by look (set_up_of k) (books_of k) _ c.args.account c.args.request c.args.time _ (Ok p) (omega arith) c.if-not-has_account.ensures (omega arith) (prepare-read _ (Ok c.in-Ok.prepare) c.in-Ok.ensures.value)
           ∙ decided-at look (set_up_of k) (books_of k) _ c.args.account c.args.request c.args.time p (Ok o) c.advance.ensures (c.in-Ok-decide.ensures.value c.args.request))
           (record {
             answer = w.value ∙ ap (λ (d : Books). forwarded (d.last + 1) (goes_to o) (length (forwarded_bytes (going p o))) (d.last + 1)) c.advance.ensures;

@@ -5,11 +5,11 @@ use Rattle.connector.specs.Views.{books_of, set_up_of}
 use Rattle.connector.proofs.Outcomes.{turned_so, refused-so, sent-none, sent-again, sent-marks}
 use Rattle.connector.proofs.connector.Connector.sent.Goals as goal
 
-pub returns-in-default : goal.returns-in-default
-returns-in-default g c =
+pub returns-in_default : goal.returns-in_default
+returns-in_default g c =
     let k = c.args.self.now in
     record {
-      does = refused-so g.S.Stage.held (set_up_of k) (books_of k) k.stages _ _ _ (sent-none (books_of k) c.args.duty.number (c.in-default.ensures ∙ ap (λ n. lookup n (books_of k).rows) c.spend-number.ensures));
+      does = refused-so g.S.Stage.held (set_up_of k) (books_of k) k.stages _ _ _ (sent-none (books_of k) c.args.duty.number (c.in_default.ensures ∙ ap (λ n. lookup n (books_of k).rows) c.spend-number.ensures));
       kept = record { routes = refl; own = refl; hash = refl };
       unchanged = refl;
     }

@@ -29,13 +29,13 @@ returns-then-time-gt-LAST-INSTANT g c =
       unchanged = refl;
     }
 
-pub returns-in-default : goal.returns-in-default
-returns-in-default g c =
+pub returns-in_default : goal.returns-in_default
+returns-in_default g c =
     let k = c.args.self.now in
     record {
       does =
           turned_so g.S.Stage.held
-          (tick-by (books_of k) _ c.args.time _ (omega arith) (omega arith) (c.in-default.ensures ∙ ap (λ (b : Books). due b.time b.rows) c.advance.ensures))
+          (tick-by (books_of k) _ c.args.time _ (omega arith) (omega arith) (c.in_default.ensures ∙ ap (λ (b : Books). due b.time b.rows) c.advance.ensures))
           (record { answer = refl; books = c.advance.ensures; stack = refl; buffer-now = refl });
       kept = record { routes = refl; own = refl; hash = refl };
       unchanged = tt;

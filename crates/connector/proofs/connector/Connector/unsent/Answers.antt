@@ -24,11 +24,11 @@ returns-then-buffer-lt-LONGEST-PACKET g c =
       unchanged = refl;
     }
 
-pub returns-in-default : goal.returns-in-default
-returns-in-default g c =
+pub returns-in_default : goal.returns-in_default
+returns-in_default g c =
     let k = c.args.self.now in
     record {
-      does = refused-so g.S.Stage.held (set_up_of k) (books_of k) k.stages _ _ _ (unsent-none (books_of k) _ c.args.duty.number (omega arith) (c.in-default.ensures ∙ ap (λ n. lookup n (books_of k).rows) c.spend-number.ensures));
+      does = refused-so g.S.Stage.held (set_up_of k) (books_of k) k.stages _ _ _ (unsent-none (books_of k) _ c.args.duty.number (omega arith) (c.in_default.ensures ∙ ap (λ n. lookup n (books_of k).rows) c.spend-number.ensures));
       kept = record { routes = refl; own = refl; hash = refl };
       unchanged = refl;
     }

@@ -26,7 +26,7 @@ held-there l n r e = can-end r (view l) (found-again (view l) n r e) l.sound
 pub returns-then-not-end : goal.returns-then-not-end
 returns-then-not-end c =
     let l = c.args.self.now in
-    absurd (true≢false (sym (held-there l c.args.number c.in-ok-row.row c.in-ok-row.ensures) ∙ sym (c.if-not-end.ensures.answer ∙ ap (can_end (figures_list l.accounts)) c.hold-of.ensures)))
+    absurd (true≢false (sym (held-there l c.args.number c.in_ok-row.row c.in_ok-row.ensures) ∙ sym (c.if-not-end.ensures.answer ∙ ap (can_end (figures_list l.accounts)) c.hold_of.ensures)))
 
 -- what the parts did is what was to be done
 ended_so : (l : Ledger) (n : ℕ) (paid : Bool) (r : Pending) (h : Hold) (ps : List Pending) (xs : List Figures) → Some r ≡ lookup n (rows_of l.pending) → h ≡ hold_of r → ps ≡ dropped n (rows_of l.pending) → xs ≡ ended paid h (figures_list l.accounts) → ◌≡◌ {A = Books} (record { time = l.time; last = l.last; rows = ps; accounts = xs }) (closed paid r (view l))
@@ -35,12 +35,12 @@ ended_so l n paid r h ps xs e is p x =
     (p ∙ ap (λ m. dropped m (rows_of l.pending)) (sym (lookup-number n (rows_of l.pending) r (sym e))))
     (x ∙ ap (λ g. ended paid g (figures_list l.accounts)) is)
 
-pub invariant-of-self-2 : goal.invariant-of-self-2
-invariant-of-self-2 c =
+pub invariant_of-self-2 : goal.invariant_of-self-2
+invariant_of-self-2 c =
     let l = c.args.self.now in
-    let r = c.in-ok-row.row in (
-      subst Sound (sym (ended_so l c.args.number c.args.fulfilled r c.hold-of.result _ _ c.in-ok-row.ensures c.hold-of.ensures c.remove.ensures.rows c.if-not-end.ensures.figures))
-          (sound-closed c.args.fulfilled r (view l) (found-again (view l) c.args.number r c.in-ok-row.ensures) l.sound),
+    let r = c.in_ok-row.row in (
+      subst Sound (sym (ended_so l c.args.number c.args.fulfilled r c.hold_of.result _ _ c.in_ok-row.ensures c.hold_of.ensures c.remove.ensures.rows c.if-not-end.ensures.figures))
+          (sound-closed c.args.fulfilled r (view l) (found-again (view l) c.args.number r c.in_ok-row.ensures) l.sound),
       tt,
     )
 
@@ -48,7 +48,7 @@ pub returns : goal.returns
 returns c =
     let l = c.args.self.now in
     record {
-      value = c.in-ok-row.ensures;
-      books = ended_so l c.args.number c.args.fulfilled c.in-ok-row.row c.hold-of.result _ _ c.in-ok-row.ensures c.hold-of.ensures c.remove.ensures.rows c.if-not-end.ensures.figures;
+      value = c.in_ok-row.ensures;
+      books = ended_so l c.args.number c.args.fulfilled c.in_ok-row.row c.hold_of.result _ _ c.in_ok-row.ensures c.hold_of.ensures c.remove.ensures.rows c.if-not-end.ensures.figures;
       unchanged = tt;
     }

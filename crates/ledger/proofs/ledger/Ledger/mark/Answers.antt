@@ -5,8 +5,8 @@ use Rattle.ledger.proofs.Same.{same_books, same-by-pending}
 use Rattle.ledger.proofs.Stays.{sound-marked}
 use Rattle.ledger.proofs.ledger.Ledger.mark.Goals as goal
 
-pub invariant-of-self : goal.invariant-of-self
-invariant-of-self c =
+pub invariant_of-self : goal.invariant_of-self
+invariant_of-self c =
     let l = c.args.self.now in
     (subst Sound (sym (same_books l.time l.last _ _ _ _ c.mark.ensures.rows refl)) (sound-marked c.args.number (view l) l.sound), tt)
 

@@ -7,8 +7,8 @@ use Rattle.ledger.proofs.Same.{same_books, told-some}
 use Rattle.ledger.proofs.Stays.{sound-new}
 use Rattle.ledger.proofs.ledger.Ledger.new.Goals as goal
 
-pub invariant-of-result : goal.invariant-of-result
-invariant-of-result c =
+pub invariant_of-result : goal.invariant_of-result
+invariant_of-result c =
     let limits = c.args.limits.now in
-    let made = told-some (set_up_fits limits) (new_accounts limits) (figures_list c.in-ok-accounts.accounts) c.in-ok-accounts.ensures in
+    let made = told-some (set_up_fits limits) (new_accounts limits) (figures_list c.in_ok-accounts.accounts) c.in_ok-accounts.ensures in
     (subst Sound (sym (same_books 0 0 _ _ _ _ c.new-2.ensures made.1)) (sound-new limits), tt)

@@ -29,9 +29,9 @@ given : (l : Ledger) (v : Reservation) (n : ℕ) → has_number (view l) ≡ tru
 given l v n has is room fits =
     ap Some is ∙ sym (ap (λ b. then_some b (l.last + 1)) (and_from _ _ (and_from _ _ has (ap not (sym room))) (sym fits)))
 
-pub returns-then-is-full : goal.returns-then-is-full
-returns-then-is-full c =
-    record { value = told_none _ _ (full c.args.self.now c.args.reservation c.if-is-full.ensures); books = refl; unchanged = refl }
+pub returns-then-is_full : goal.returns-then-is_full
+returns-then-is_full c =
+    record { value = told_none _ _ (full c.args.self.now c.args.reservation c.if-is_full.ensures); books = refl; unchanged = refl }
 
 pub returns-then-not-hold : goal.returns-then-not-hold
 returns-then-not-hold c =
@@ -39,13 +39,13 @@ returns-then-not-hold c =
     let whole = same-ledger _ l refl refl (c.if-not-hold.ensures.unchanged refl) refl in
     record { value = told_none _ _ (unheld l c.args.reservation c.if-not-hold.ensures.answer); books = ap view whole; unchanged = whole }
 
-pub invariant-of-self-2 : goal.invariant-of-self-2
-invariant-of-self-2 c =
+pub invariant_of-self-2 : goal.invariant_of-self-2
+invariant_of-self-2 c =
     let l = c.args.self.now in
     let v = c.args.reservation in
-    let next = told-some (has_number (view l)) (l.last + 1) c.in-ok-number.number c.in-ok-number.ensures in
+    let next = told-some (has_number (view l)) (l.last + 1) c.in_ok-number.number c.in_ok-number.ensures in
     let held = c.if-not-hold.ensures in (
-      subst Sound (sym (by-reserve (view l) v c.in-ok-number.number _ _ next.1 (rows_more l v c.in-ok-number.number c.add.result c.row.result _ c.if-is-full.ensures c.row.ensures c.add.ensures.value c.add.ensures.rows) held.figures))
+      subst Sound (sym (by-reserve (view l) v c.in_ok-number.number _ _ next.1 (rows_more l v c.in_ok-number.number c.add.result c.row.result _ c.if-is_full.ensures c.row.ensures c.add.ensures.value c.add.ensures.rows) held.figures))
           (sound-admitted (next_row (view l) v) (view l) refl (fits-row (figures_list l.accounts) (next_row (view l) v) (sym held.answer)) l.sound),
       tt,
     )
@@ -54,10 +54,10 @@ pub returns : goal.returns
 returns c =
     let l = c.args.self.now in
     let v = c.args.reservation in
-    let next = told-some (has_number (view l)) (l.last + 1) c.in-ok-number.number c.in-ok-number.ensures in
+    let next = told-some (has_number (view l)) (l.last + 1) c.in_ok-number.number c.in_ok-number.ensures in
     let held = c.if-not-hold.ensures in
     record {
-      value = given l v c.in-ok-number.number next.0 next.1 c.if-is-full.ensures held.answer;
-      books = by-reserve (view l) v c.in-ok-number.number _ _ next.1 (rows_more l v c.in-ok-number.number c.add.result c.row.result _ c.if-is-full.ensures c.row.ensures c.add.ensures.value c.add.ensures.rows) held.figures;
+      value = given l v c.in_ok-number.number next.0 next.1 c.if-is_full.ensures held.answer;
+      books = by-reserve (view l) v c.in_ok-number.number _ _ next.1 (rows_more l v c.in_ok-number.number c.add.result c.row.result _ c.if-is_full.ensures c.row.ensures c.add.ensures.value c.add.ensures.rows) held.figures;
       unchanged = tt;
     }

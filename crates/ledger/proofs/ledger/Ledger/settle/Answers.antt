@@ -79,7 +79,7 @@ returns c =
     let way = c.in-Some.way in
     let said = c.settle.ensures in
     record {
-      value = c.ok-or.ensures.value ∙ value-by (view l) c.args.account (way_number way) c.args.way c.args.amount c.settle.result (way-told c.args.way way c.in-Some.ensures) (known-way way) (sym c.if-not-has-account.ensures) said.answer;
-      books = books-so (view l) c.args.account (way_number way) c.args.amount (can_settle_at (figures_list l.accounts) c.args.account (way_number way) c.args.amount) c.settle.result c.ok-or.result (figures_list c.settle.new.self) said.answer said.figures c.ok-or.ensures.value;
-      unchanged = same-so l _ c.settle.result c.ok-or.result refl refl refl said.unchanged c.ok-or.ensures.value;
+      value = c.ok_or.ensures.value ∙ value-by (view l) c.args.account (way_number way) c.args.way c.args.amount c.settle.result (way-told c.args.way way c.in-Some.ensures) (known-way way) (sym c.if-not-has_account.ensures) said.answer;
+      books = books-so (view l) c.args.account (way_number way) c.args.amount (can_settle_at (figures_list l.accounts) c.args.account (way_number way) c.args.amount) c.settle.result c.ok_or.result (figures_list c.settle.new.self) said.answer said.figures c.ok_or.ensures.value;
+      unchanged = same-so l _ c.settle.result c.ok_or.result refl refl refl said.unchanged c.ok_or.ensures.value;
     }

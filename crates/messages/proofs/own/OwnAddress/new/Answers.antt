@@ -5,14 +5,14 @@ use Rattle.std.specs.Bool.{then_some}
 use Rattle.address.specs.Addresses.{is_address}
 use Rattle.messages.proofs.own.OwnAddress.new.Goals as goal
 
-pub invariant-of-result : goal.invariant-of-result
-invariant-of-result c =
+pub invariant_of-result : goal.invariant_of-result
+invariant_of-result c =
     let s = c.args.address.now in
     let front : take c.put-size.result c.put-size.new.out ≡ c.args.address.now = ap (take c.put-size.result) c.put-size.ensures.wrote.is ∙ take_at s _ c.put-size.result (omega (arith, c.put-size.ensures.place)) in
-    (omega (arith, c.put-size.ensures.place), (c.put-size.auto.out, (ap is_address front ∙ sym c.if-not-is-address.ensures, tt)))
+    (omega (arith, c.put-size.ensures.place), (c.put-size.auto.out, (ap is_address front ∙ sym c.if-not-is_address.ensures, tt)))
 
 pub returns : goal.returns
 returns c =
     let s = c.args.address.now in
     let front : take c.put-size.result c.put-size.new.out ≡ c.args.address.now = ap (take c.put-size.result) c.put-size.ensures.wrote.is ∙ take_at s _ c.put-size.result (omega (arith, c.put-size.ensures.place)) in
-    ap Some front ∙ sym (ap (λ b. then_some b s) (and_from _ _ (le-leb (length s) 64 (omega arith)) (sym c.if-not-is-address.ensures)))
+    ap Some front ∙ sym (ap (λ b. then_some b s) (and_from _ _ (le-leb (length s) 64 (omega arith)) (sym c.if-not-is_address.ensures)))

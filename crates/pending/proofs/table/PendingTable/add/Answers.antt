@@ -13,17 +13,17 @@ room t e =
     grind (arith, nat_tests)
 
 pub bounds-self-self : goal.bounds-self-self
-bounds-self-self c = room c.args.self.now c.if-is-full.ensures
+bounds-self-self c = room c.args.self.now c.if-is_full.ensures
 
-pub invariant-of-self : goal.invariant-of-self
-invariant-of-self c =
+pub invariant_of-self : goal.invariant_of-self
+invariant_of-self c =
     let t = c.args.self.now in
-    let free = room t c.if-is-full.ensures in
+    let free = room t c.if-is_full.ensures in
     (omega arith, (length-set t.places t.len c.args.row ∙ t.whole, tt))
 
 pub returns : goal.returns
 returns c =
     let t = c.args.self.now in
     let whole = t.whole in
-    let free = room t c.if-is-full.ensures in
-    record { value = ap not c.if-is-full.ensures; rows = take_more_set t.places t.len c.args.row (omega arith); unchanged = tt }
+    let free = room t c.if-is_full.ensures in
+    record { value = ap not c.if-is_full.ensures; rows = take_more_set t.places t.len c.args.row (omega arith); unchanged = tt }

@@ -6,7 +6,7 @@ use Rattle.pending.specs.Rows.{vacant, ends_before, earliest_from, earliest}
 use Rattle.pending.specs.Tables.{rows_of}
 use Rattle.pending.proofs.Found.{length-rows}
 use Rattle.pending.proofs.table.PendingTable.earliest.Goals as goal
-use Rattle.pending.proofs.table.PendingTable.earliest.Goals.{then-ends-before, else-ends-before}
+use Rattle.pending.proofs.table.PendingTable.earliest.Goals.{then-ends_before, else-ends_before}
 
 -- one place further
 step : (t : PendingTable) (p : Pending) (i : ℕ) → i < t.len → earliest_from p (drop i (rows_of t)) ≡ earliest_from (cond (ends_before (get_or t.places i vacant) p) (get_or t.places i vacant) p) (drop (i + 1) (rows_of t))
@@ -39,9 +39,9 @@ again t b i j e false l m h g inv = (
 pub loop-i-preserved : goal.loop-i-preserved
 loop-i-preserved c =
     let t = c.args.self.now in
-    elim c.if-ends-before.branch [
-      | then-ends-before w ↦ again t c.loop-i.best c.loop-i.i c.if-ends-before.best _ true c.loop-i-test.true c.loop-i.invariant.0 w.if-ends-before.ensures w.best-is c.loop-i.invariant.1
-      | else-ends-before w ↦ again t c.loop-i.best c.loop-i.i c.if-ends-before.best _ false c.loop-i-test.true c.loop-i.invariant.0 w.if-ends-before.ensures w.best-is c.loop-i.invariant.1
+    elim c.if-ends_before.branch [
+      | then-ends_before w ↦ again t c.loop-i.best c.loop-i.i c.if-ends_before.best _ true c.loop-i-test.true c.loop-i.invariant.0 w.if-ends_before.ensures w.best-is c.loop-i.invariant.1
+      | else-ends_before w ↦ again t c.loop-i.best c.loop-i.i c.if-ends_before.best _ false c.loop-i-test.true c.loop-i.invariant.0 w.if-ends_before.ensures w.best-is c.loop-i.invariant.1
     ]
 
 pub returns : goal.returns

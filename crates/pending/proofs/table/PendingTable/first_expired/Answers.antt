@@ -14,15 +14,15 @@ expiry-at t i l = ap (λ (r : Pending). r.expiry) (get_or-take t.len t.places i 
 pub returns-then-self-place : goal.returns-then-self-place
 returns-then-self-place c =
     let t = c.args.self.now in
-    let i = c.in-ok-place.place in
-    let e = c.in-ok-place.ensures in
+    let i = c.in_ok-place.place in
+    let e = c.in_ok-place.ensures in
     let n = not-reached (rows_of t) c.args.time i e (omega (arith, expiry-at t i e.0, c.if-self-place.true)) in
     record { value = n.0; soonest = n.1 }
 
 pub returns : goal.returns
 returns c =
     let t = c.args.self.now in
-    let i = c.in-ok-place.place in
-    let e = c.in-ok-place.ensures in
+    let i = c.in_ok-place.place in
+    let e = c.in_ok-place.ensures in
     let n = reached (rows_of t) c.args.time i e (omega (arith, expiry-at t i e.0, c.if-self-place.false)) in
     record { value = n.0; soonest = n.1 }

@@ -19,14 +19,14 @@ below t n i e =
     let few = t.few in
     omega (arith, (found n (rows_of t) i e).there, length-rows t)
 
-pub returns-in-default : goal.returns-in-default
-returns-in-default c =
+pub returns-in_default : goal.returns-in_default
+returns-in_default c =
     let t = c.args.self.now in
-    let none = absent-from 0 c.args.number (rows_of t) (sym c.in-default.ensures) in
+    let none = absent-from 0 c.args.number (rows_of t) (sym c.in_default.ensures) in
     record { value = sym (ap is_some none.0); rows = sym none.2; unchanged = refl }
 
-pub offset-bounds-self-place : goal.offset-bounds-self-place
-offset-bounds-self-place c = let l = below c.args.self.now c.args.number c.in-Some.place (sym c.in-Some.ensures) in omega arith
+pub offset_bounds-self-place : goal.offset_bounds-self-place
+offset_bounds-self-place c = let l = below c.args.self.now c.args.number c.in-Some.place (sym c.in-Some.ensures) in omega arith
 
 pub bounds-self-place : goal.bounds-self-place
 bounds-self-place c = below c.args.self.now c.args.number c.in-Some.place (sym c.in-Some.ensures)

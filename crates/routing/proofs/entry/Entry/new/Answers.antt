@@ -2,8 +2,8 @@ use Rattle.std.proofs.Common.{◌≡◌, take, ap, ◌∙◌, arith}
 use Rattle.std.proofs.lemmas.List.{take_at}
 use Rattle.routing.proofs.entry.Entry.new.Goals as goal
 
-pub invariant-of-result : goal.invariant-of-result
-invariant-of-result c = (omega arith, tt)
+pub invariant_of-result : goal.invariant_of-result
+invariant_of-result c = (omega arith, tt)
 
 pub returns : goal.returns
 returns c =

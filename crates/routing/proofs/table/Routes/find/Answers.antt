@@ -4,11 +4,11 @@ use Rattle.routing.proofs.Fitting.{fit-once}
 use Rattle.routing.proofs.LookUp.{look-up-account, look-up-longest, longest-known, one-of-a-length}
 use Rattle.routing.proofs.table.Routes.find.Goals as goal
 
-pub returns-in-err-entry : goal.returns-in-err-entry
-returns-in-err-entry c =
+pub returns-in_err-entry : goal.returns-in_err-entry
+returns-in_err-entry c =
     let t = c.args.self.now in
     let d = c.args.destination.now in
-    let value = c.from-residual.ensures ∙ look-up-account (listed t) d _ c.in-err-entry.ensures in
+    let value = c.from-residual.ensures ∙ look-up-account (listed t) d _ c.in_err-entry.ensures in
     let longest = look-up-longest (listed t) d _ value in
     record {
       value = value;
@@ -21,7 +21,7 @@ pub returns : goal.returns
 returns c =
     let t = c.args.self.now in
     let d = c.args.destination.now in
-    let value = ap (λ n. Some n) c.account.ensures ∙ look-up-account (listed t) d _ c.in-ok-entry.ensures in
+    let value = ap (λ n. Some n) c.account.ensures ∙ look-up-account (listed t) d _ c.in_ok-entry.ensures in
     let longest = look-up-longest (listed t) d (Some c.account.result) value in
     record {
       value = value;

@@ -4,4 +4,4 @@ use Rattle.routing.proofs.Fitting.{fit-short}
 use Rattle.routing.proofs.table.Routes.new.Goals as goal
 
 pub copied-requires : goal.copied-requires
-copied-requires c = fit-short c.args.accounts (given_list c.args.routes.now) (sym c.if-not-routes-fit.ensures)
+copied-requires c = fit-short c.args.accounts (given_list c.args.routes.now) (sym c.if-not-routes_fit.ensures)

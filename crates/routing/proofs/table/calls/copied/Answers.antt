@@ -9,7 +9,7 @@ new-requires c = short-at c.args.routes.now c.loop-route.route-index _ c.loop-ro
 
 pub loop-route-preserved : goal.loop-route-preserved
 loop-route-preserved c = (
-  copied_next c.args.routes.now c.loop-route.route-index _ (vec_items c.loop-route.entries) c.new.result _ c.loop-route-test.true c.loop-route.invariant.0 c.new.ensures c.push-reserved.ensures.items,
+  copied_next c.args.routes.now c.loop-route.route-index _ (vec_items c.loop-route.entries) c.new.result _ c.loop-route-test.true c.loop-route.invariant.0 c.new.ensures c.push_reserved.ensures.items,
   omega arith,
   omega arith,
 )

@@ -4,8 +4,8 @@ use Rattle.stage.specs.Numbers.{none_twice}
 use Rattle.stage.proofs.OpenLists.{once-push}
 use Rattle.stage.proofs.numbers.OpenNumbers.add.Goals as goal
 
-pub invariant-of-self : goal.invariant-of-self
-invariant-of-self c =
+pub invariant_of-self : goal.invariant_of-self
+invariant_of-self c =
     let s = c.args.self.now in
     let room : s.count < length s.places = omega (arith, length-take-le s.count s.places (omega arith)) in
     let once : none_twice (take (s.count + 1) (set s.places s.count c.args.number)) ≡ true =

@@ -9,4 +9,4 @@ found_among xs n (Some i) h = sym (among-at xs n i h.0 h.1)
 found_among xs n None h = sym h
 
 pub returns : goal.returns
-returns c = c.is-some.ensures ∙ found_among _ c.args.number c.find.result c.find.ensures
+returns c = c.is_some.ensures ∙ found_among _ c.args.number c.find.result c.find.ensures

@@ -12,20 +12,20 @@ use Rattle.stage.proofs.numbers.OpenNumbers.remove.Goals as goal
 only-place : (o : OpenNumbers) (n i : ℕ) → Finds (opened o) n (Some i) → without (opened o) n ≡ remove (opened o) i
 only-place o n i found = without_at (opened o) n i o.once found.0 found.1
 
-pub invariant-of-self : goal.invariant-of-self
-invariant-of-self c =
+pub invariant_of-self : goal.invariant_of-self
+invariant_of-self c =
     let s = c.args.self.now in
-    let once = ap none_twice (c.close-gap.ensures ∙ sym (only-place s c.args.number c.in-Some.place c.in-Some.ensures)) ∙ once-without (opened s) c.args.number s.once in
-    (c.close-gap.auto.numbers ∙ s.whole, (omega arith, (once, tt)))
+    let once = ap none_twice (c.close_gap.ensures ∙ sym (only-place s c.args.number c.in-Some.place c.in-Some.ensures)) ∙ once-without (opened s) c.args.number s.once in
+    (c.close_gap.auto.numbers ∙ s.whole, (omega arith, (once, tt)))
 
 pub returns : goal.returns
 returns c =
     let found = c.in-Some.ensures in
     record {
-      numbers = c.close-gap.ensures ∙ sym (only-place c.args.self.now c.args.number c.in-Some.place found);
+      numbers = c.close_gap.ensures ∙ sym (only-place c.args.self.now c.args.number c.in-Some.place found);
       unchanged = λ none. absurd (both_ways _ none (among-at (opened c.args.self.now) c.args.number c.in-Some.place found.0 found.1));
     }
 
-pub returns-in-default : goal.returns-in-default
-returns-in-default c =
-    record { numbers = sym (without-none (opened c.args.self.now) c.args.number c.in-default.ensures); unchanged = λ _. refl }
+pub returns-in_default : goal.returns-in_default
+returns-in_default c =
+    record { numbers = sym (without-none (opened c.args.self.now) c.args.number c.in_default.ensures); unchanged = λ _. refl }

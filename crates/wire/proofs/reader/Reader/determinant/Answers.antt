@@ -11,9 +11,9 @@ pub returns-in-129 : goal.returns-in-129
 unfolding determinant
 returns-in-129 c = grind (arith, reading)
 
-pub returns-in-default : goal.returns-in-default
+pub returns-in_default : goal.returns-in_default
 unfolding determinant
-returns-in-default c = grind (arith, reading)
+returns-in_default c = grind (arith, reading)
 
 pub returns-in-0-to-127 : goal.returns-in-0-to-127
 unfolding determinant
