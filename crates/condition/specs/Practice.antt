@@ -3,6 +3,6 @@
 use Rattle.std.specs.Prelude.{ℕ, ◌-◌, List, map, bit_xor, slice_index}
 use Rattle.std.specs.List.{range_with_len}
 
--- `counting 0 32` is the list of the numbers from 0 to 31
+-- `range_with_len 0 32` is the list of the numbers from 0 to 31
 unfoldable pub practice : List ℕ → List ℕ
 practice input = map (λ i. bit_xor (slice_index input (31 - i)) 0x5a) (range_with_len 0 32)

@@ -1,7 +1,7 @@
 -- SHA-256, by FIPS 180-4, of 32 bytes, which with their padding are one block.
 -- A word is a number below 2 ^ 32, a byte one below 256; a list has its first element at index 0.
 -- Assumes nothing.
-use Rattle.std.specs.Prelude.{ℕ, zero, suc, ◌+◌, ◌-◌, ◌*◌, ◌/◌, ◌%◌, ◌^◌, cond, List, [], ◌∷◌, ◌++◌, replicate, bit_and, bit_or, bit_xor, nat_lt, slice_index, slice_index_or}
+use Rattle.std.specs.Prelude.{ℕ, zero, suc, ◌+◌, ◌-◌, ◌*◌, ◌/◌, ◌%◌, ◌^◌, cond, List, [], ◌∷◌, ◌++◌, replicate, bit_and, bit_or, bit_xor, nat_lt, slice_index}
 use Rattle.condition.specs.declared.sha256.state.State.{State}
 
 -- Section 3.2, operations on words. Addition modulo 2 ^ 32
@@ -84,7 +84,7 @@ initial = record {
 
 -- Section 6.2.2, step 1, the schedule. The word t, for t from 16 on, from words before it
 abbrev pub next_word : List ℕ → ℕ → ℕ
-next_word w t = σ₁ (slice_index w (t - 2)) ⊞ slice_index_or w (t - 7) 0 ⊞ σ₀ (slice_index w (t - 15)) ⊞ slice_index_or w (t - 16) 0
+next_word w t = σ₁ (slice_index w (t - 2)) ⊞ slice_index w (t - 7) ⊞ σ₀ (slice_index w (t - 15)) ⊞ slice_index w (t - 16)
 
 -- the word t, of the block b or from the words w before it
 abbrev pub schedule_word : List ℕ → List ℕ → ℕ → ℕ

@@ -19,5 +19,5 @@ returns g c =
       numbers =
           cases-then (λ v. Run held rule s c.args.changes.now (vec_items v) t) (λ v. held t ≡ open_since (held s) c.args.changes.now (vec_items v)) (λ _. t ≡ s)
           c.execute_all.result (λ v r. (keeps s t c.args.changes.now (vec_items v) r).0) c.execute_all.ensures;
-      every-run = keeps;
+      every_run = keeps;
     }

@@ -4,13 +4,11 @@ use Rattle.stage.specs.Numbers.{none_twice}
 use Rattle.stage.proofs.OpenLists.{once-push}
 use Rattle.stage.proofs.numbers.OpenNumbers.add.Goals as goal
 
-pub invariant_of-self : goal.invariant_of-self
-invariant_of-self c =
+pub invariant_of-self-clause-once : goal.invariant_of-self-clause-once
+invariant_of-self-clause-once c =
     let s = c.args.self.now in
     let room : s.count < length s.places = omega (arith, length-take-le s.count s.places (omega arith)) in
-    let once : none_twice (take (s.count + 1) (set s.places s.count c.args.number)) ≡ true =
-    rw (take_more_set s.places s.count c.args.number room) (once-push (take s.count s.places) c.args.number s.once c.requires.new) in
-    (length-set s.places s.count c.args.number ∙ s.whole, (omega arith, (once, tt)))
+    rw (take_more_set s.places s.count c.args.number room) (once-push (take s.count s.places) c.args.number s.once c.requires.new)
 
 pub returns : goal.returns
 returns c =

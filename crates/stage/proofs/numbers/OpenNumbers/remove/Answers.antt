@@ -12,11 +12,10 @@ use Rattle.stage.proofs.numbers.OpenNumbers.remove.Goals as goal
 only-place : (o : OpenNumbers) (n i : ℕ) → Finds (opened o) n (Some i) → without (opened o) n ≡ remove (opened o) i
 only-place o n i found = without_at (opened o) n i o.once found.0 found.1
 
-pub invariant_of-self : goal.invariant_of-self
-invariant_of-self c =
+pub invariant_of-self-clause-once : goal.invariant_of-self-clause-once
+invariant_of-self-clause-once c =
     let s = c.args.self.now in
-    let once = ap none_twice (c.close_gap.ensures ∙ sym (only-place s c.args.number c.in-Some.place c.in-Some.ensures)) ∙ once-without (opened s) c.args.number s.once in
-    (c.close_gap.auto.numbers ∙ s.whole, (omega arith, (once, tt)))
+    ap none_twice (c.close_gap.ensures ∙ sym (only-place s c.args.number c.in-Some.place c.in-Some.ensures)) ∙ once-without (opened s) c.args.number s.once
 
 pub returns : goal.returns
 returns c =
