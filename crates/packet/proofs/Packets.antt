@@ -16,7 +16,7 @@ use Rattle.packet.specs.declared.value.Kind.TheVariants as kind
 use Rattle.packet.specs.Values.{PacketValue, prepare, fulfill, reject, kind_of}
 use Rattle.packet.specs.Encoding.{type_byte, content_bytes, packet_bytes, WellFormed}
 use Rattle.packet.specs.Fields.{read_prepare, read_fulfill, read_reject}
-use Rattle.packet.specs.Readers.{read_kind, read_length, read_end, wholly, read_content, result, asked, read_as, valued}
+use Rattle.packet.specs.Readers.{read_kind, read_length, read_end, wholly, read_content, read_result, asked, read_as, valued}
 use Rattle.packet.specs.OneEncoding.{Bytes, OneEncoding}
 use Rattle.packet.proofs.Codec.{from, Front, Codec, split-then, same_ok, bytes_rest}
 use Rattle.packet.proofs.Parts.{determinant-codec, amount-long, code-long, trigger-short}
@@ -88,9 +88,9 @@ content-back kind.Reject p xs v after low e =
     let one = wholly-back reject-codec p xs s.0 s.1 low s.2 in
     subst (ReadBack kind.Reject xs) (same_ok (reject s.0) v s.1 after s.3).0 (record { is = one.0; kind = refl; fits = one.1 })
 
-result-back : {X : Type 0} (r : Read X) (x : X) → result r ≡ Ok x → (b : At) × (r ≡ Ok (x, b))
-result-back (Ok v) x e = (v.1, let same : v.0 ≡ x = cc in ap (λ w. Ok (w, v.1)) same)
-result-back (Err d) x e = grind arith
+read_result-back : {X : Type 0} (r : Read X) (x : X) → read_result r ≡ Ok x → (b : At) × (r ≡ Ok (x, b))
+read_result-back (Ok v) x e = (v.1, let same : v.0 ≡ x = cc in ap (λ w. Ok (w, v.1)) same)
+read_result-back (Err d) x e = grind arith
 
 wanted-back : (t : Bool) (r : Read PacketValue) (f : Fault) (v : PacketValue) (c : At) → cond t r (Err f) ≡ Ok (v, c) → (t ≡ true) × (r ≡ Ok (v, c))
 wanted-back t r f v c e = (grind (arith, nat_tests), grind (arith, nat_tests))
@@ -98,7 +98,7 @@ wanted-back t r f v c e = (grind (arith, nat_tests), grind (arith, nat_tests))
 back : (wanted : Kind → Bool) (bytes : List ℕ) (v : PacketValue) → Bytes bytes → read_as wanted bytes ≡ Ok v → (bytes ≡ packet_bytes v) × WellFormed v × (wanted (kind_of v) ≡ true)
 unfolding read_as packet_bytes
 back wanted bytes v low e =
-    let r = result-back (asked wanted (from 0 bytes)) v e in
+    let r = read_result-back (asked wanted (from 0 bytes)) v e in
     let s = split-then (read_kind (from 0 bytes)) (λ k b. cond (wanted k) (read_content k b) (fails Wrapper WrongType (from 0 bytes))) v r.0 r.1 in
     let first = kind-back 0 bytes s.0 s.1 s.2 in
     let t = wanted-back (wanted s.0) (read_content s.0 s.1) _ v r.0 s.3 in

@@ -44,16 +44,16 @@ read_content kind.Fulfill a = and_then (wholly read_fulfill a) (λ f b. Ok (fulf
 read_content kind.Reject a = and_then (wholly read_reject a) (λ r b. Ok (reject r, b))
 
 -- a reading's value or its fault, with no word of where the reading stands
-abbrev pub result : {X : Type 0} → Read X → Result X Fault
-result (Ok x) = Ok x.0
-result (Err e) = Err e
+abbrev pub read_result : {X : Type 0} → Read X → Result X Fault
+read_result (Ok x) = Ok x.0
+read_result (Err e) = Err e
 
 -- a packet of one of the kinds that are asked for; another kind is a wrong type, whatever else is broken in it
 abbrev pub asked : (Kind → Bool) → At → Read PacketValue
 asked wanted a = and_then (read_kind a) (λ k b. cond (wanted k) (read_content k b) (fails Wrapper WrongType a))
 
 unfoldable pub read_as : (Kind → Bool) → List ℕ → Result PacketValue Fault
-read_as wanted bytes = result (asked wanted (at 0 bytes))
+read_as wanted bytes = read_result (asked wanted (at 0 bytes))
 
 -- the kinds that each reader asks for
 abbrev pub any_kind : Kind → Bool

@@ -4,7 +4,7 @@ ghost use Rattle.wire.specs.Reading.{at, standing, Reads};
 ghost use Rattle.packet.specs.Values.{prepare_of, fulfill_of, reject_of, packet_of, answer_of};
 ghost use Rattle.packet.specs.Encoding.{packet_bytes, WellFormed};
 ghost use Rattle.packet.specs.Fields.{read_prepare, read_fulfill, read_reject};
-ghost use Rattle.packet.specs.Readers.{read_kind, read_length, read_end, wholly, result, asked, read_as, any_kind, prepare_kind, answer_kind, valued, prepare_value};
+ghost use Rattle.packet.specs.Readers.{read_kind, read_length, read_end, wholly, read_result, asked, read_as, any_kind, prepare_kind, answer_kind, valued, prepare_value};
 ghost use Rattle.packet.specs.OneEncoding.{OneEncoding};
 
 use crate::fields::{fulfill, prepare, reject};
@@ -19,7 +19,7 @@ const WRONG_TYPE: Fault = Fault {
 };
 
 fn kind(reader: &mut Reader<'_>) -> Result<Kind, Fault>
-    ensures* { λ r. ⌜ Reads (λ k. k) r (read_kind (standing reader.old)) (standing reader.new) ⌝ }
+    ensures { Reads (λ k. k) result (read_kind (standing reader.old)) (standing reader.new) }
 {
     if reader.skip(0x0C) {
         return Ok(Kind::Prepare);
@@ -38,7 +38,7 @@ fn kind(reader: &mut Reader<'_>) -> Result<Kind, Fault>
 
 // The determinant of the content, which is to be as long as all that is left.
 fn content_length(reader: &mut Reader<'_>) -> Result<(), Fault>
-    ensures* { λ r. ⌜ Reads (λ u. u) r (read_length (standing reader.old)) (standing reader.new) ⌝ }
+    ensures { Reads (λ u. u) result (read_length (standing reader.old)) (standing reader.new) }
 {
     let wrong = reader.fault(Layer::Wrapper, Cause::WrongLength);
     let n = reader.determinant(Layer::Wrapper, Cause::CutDeterminant)?;
@@ -49,7 +49,7 @@ fn content_length(reader: &mut Reader<'_>) -> Result<(), Fault>
 }
 
 fn end(reader: &Reader<'_>) -> Result<(), Fault>
-    ensures* { λ r. ⌜ Reads (λ u. u) r (read_end (standing reader.now)) (standing reader.now) ⌝ }
+    ensures { Reads (λ u. u) result (read_end (standing reader.now)) (standing reader.now) }
 {
     if reader.left() > 0 {
         return Err(reader.fault(Layer::Field, Cause::LeftOver));
@@ -58,7 +58,7 @@ fn end(reader: &Reader<'_>) -> Result<(), Fault>
 }
 
 fn whole_prepare<'a>(reader: &mut Reader<'a>) -> Result<Prepare<'a>, Fault>
-    ensures* { λ r. ⌜ Reads prepare_of r (wholly read_prepare (standing reader.old)) (standing reader.new) ⌝ }
+    ensures { Reads prepare_of result (wholly read_prepare (standing reader.old)) (standing reader.new) }
 {
     content_length(reader)?;
     let packet = prepare(reader)?;
@@ -67,7 +67,7 @@ fn whole_prepare<'a>(reader: &mut Reader<'a>) -> Result<Prepare<'a>, Fault>
 }
 
 fn whole_fulfill<'a>(reader: &mut Reader<'a>) -> Result<Fulfill<'a>, Fault>
-    ensures* { λ r. ⌜ Reads fulfill_of r (wholly read_fulfill (standing reader.old)) (standing reader.new) ⌝ }
+    ensures { Reads fulfill_of result (wholly read_fulfill (standing reader.old)) (standing reader.new) }
 {
     content_length(reader)?;
     let packet = fulfill(reader)?;
@@ -76,7 +76,7 @@ fn whole_fulfill<'a>(reader: &mut Reader<'a>) -> Result<Fulfill<'a>, Fault>
 }
 
 fn whole_reject<'a>(reader: &mut Reader<'a>) -> Result<Reject<'a>, Fault>
-    ensures* { λ r. ⌜ Reads reject_of r (wholly read_reject (standing reader.old)) (standing reader.new) ⌝ }
+    ensures { Reads reject_of result (wholly read_reject (standing reader.old)) (standing reader.new) }
 {
     content_length(reader)?;
     let packet = reject(reader)?;
@@ -85,7 +85,7 @@ fn whole_reject<'a>(reader: &mut Reader<'a>) -> Result<Reject<'a>, Fault>
 }
 
 fn parse_packet(bytes: &[u8]) -> Result<Packet<'_>, Fault>
-    ensures* { λ r. ⌜ valued packet_of r ≡ result (asked any_kind (at 0 bytes.now)) ⌝ }
+    ensures { valued packet_of result ≡ read_result (asked any_kind (at 0 bytes.now)) }
 {
     let mut reader = Reader::new(bytes);
     match kind(&mut reader)? {
@@ -96,7 +96,7 @@ fn parse_packet(bytes: &[u8]) -> Result<Packet<'_>, Fault>
 }
 
 fn parse_prepare(bytes: &[u8]) -> Result<Prepare<'_>, Fault>
-    ensures* { λ r. ⌜ valued prepare_value r ≡ result (asked prepare_kind (at 0 bytes.now)) ⌝ }
+    ensures { valued prepare_value result ≡ read_result (asked prepare_kind (at 0 bytes.now)) }
 {
     let mut reader = Reader::new(bytes);
     match kind(&mut reader)? {
@@ -106,7 +106,7 @@ fn parse_prepare(bytes: &[u8]) -> Result<Prepare<'_>, Fault>
 }
 
 fn parse_answer(bytes: &[u8]) -> Result<Answer<'_>, Fault>
-    ensures* { λ r. ⌜ valued answer_of r ≡ result (asked answer_kind (at 0 bytes.now)) ⌝ }
+    ensures { valued answer_of result ≡ read_result (asked answer_kind (at 0 bytes.now)) }
 {
     let mut reader = Reader::new(bytes);
     match kind(&mut reader)? {
@@ -118,30 +118,30 @@ fn parse_answer(bytes: &[u8]) -> Result<Answer<'_>, Fault>
 
 // A packet of any kind, or the first fault.
 pub fn read_packet(bytes: &[u8]) -> Result<Packet<'_>, Fault>
-    ensures* value { λ r. ⌜ valued packet_of r ≡ read_as any_kind bytes.now ⌝ }
-    ensures* encoding { λ r. ⌜ IfOk r (λ p. bytes.now ≡ packet_bytes (packet_of p)) ⌝ }
-    ensures* fits { λ r. ⌜ IfOk r (λ p. WellFormed (packet_of p)) ⌝ }
-    ensures* one_encoding { λ _. ⌜ OneEncoding ⌝ }
+    ensures value { valued packet_of result ≡ read_as any_kind bytes.now }
+    ensures encoding { IfOk result (λ p. bytes.now ≡ packet_bytes (packet_of p)) }
+    ensures fits { IfOk result (λ p. WellFormed (packet_of p)) }
+    ensures one_encoding { OneEncoding }
 {
     parse_packet(bytes)
 }
 
 // A Prepare, or the first fault: a packet of another kind is of a wrong type.
 pub fn read_prepare(bytes: &[u8]) -> Result<Prepare<'_>, Fault>
-    ensures* value { λ r. ⌜ valued prepare_value r ≡ read_as prepare_kind bytes.now ⌝ }
-    ensures* encoding { λ r. ⌜ IfOk r (λ p. bytes.now ≡ packet_bytes (prepare_value p)) ⌝ }
-    ensures* fits { λ r. ⌜ IfOk r (λ p. WellFormed (prepare_value p)) ⌝ }
-    ensures* one_encoding { λ _. ⌜ OneEncoding ⌝ }
+    ensures value { valued prepare_value result ≡ read_as prepare_kind bytes.now }
+    ensures encoding { IfOk result (λ p. bytes.now ≡ packet_bytes (prepare_value p)) }
+    ensures fits { IfOk result (λ p. WellFormed (prepare_value p)) }
+    ensures one_encoding { OneEncoding }
 {
     parse_prepare(bytes)
 }
 
 // A Fulfill or a Reject, or the first fault.
 pub fn read_answer(bytes: &[u8]) -> Result<Answer<'_>, Fault>
-    ensures* value { λ r. ⌜ valued answer_of r ≡ read_as answer_kind bytes.now ⌝ }
-    ensures* encoding { λ r. ⌜ IfOk r (λ p. bytes.now ≡ packet_bytes (answer_of p)) ⌝ }
-    ensures* fits { λ r. ⌜ IfOk r (λ p. WellFormed (answer_of p)) ⌝ }
-    ensures* one_encoding { λ _. ⌜ OneEncoding ⌝ }
+    ensures value { valued answer_of result ≡ read_as answer_kind bytes.now }
+    ensures encoding { IfOk result (λ p. bytes.now ≡ packet_bytes (answer_of p)) }
+    ensures fits { IfOk result (λ p. WellFormed (answer_of p)) }
+    ensures one_encoding { OneEncoding }
 {
     parse_answer(bytes)
 }

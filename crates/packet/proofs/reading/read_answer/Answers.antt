@@ -8,4 +8,4 @@ pub returns : goal.returns
 unfolding read_as
 returns c =
     let told = read_back answer_of answer_kind c.args.bytes.now c.parse_answer.result (λ i. omega (arith, c.type_inv.bytes i)) c.parse_answer.ensures in
-    record { value = c.parse_answer.ensures; encoding = told.0; fits = told.1; one-encoding = one-encoding }
+    record { value = c.parse_answer.ensures; encoding = told.0; fits = told.1; one_encoding = one-encoding }

@@ -8,4 +8,4 @@ pub returns : goal.returns
 unfolding read_as
 returns c =
     let told = read_back packet_of any_kind c.args.bytes.now c.parse_packet.result (λ i. omega (arith, c.type_inv.bytes i)) c.parse_packet.ensures in
-    record { value = c.parse_packet.ensures; encoding = told.0; fits = told.1; one-encoding = one-encoding }
+    record { value = c.parse_packet.ensures; encoding = told.0; fits = told.1; one_encoding = one-encoding }
