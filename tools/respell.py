@@ -18,7 +18,7 @@ TOKEN = re.compile(r"[^\s(){}.;,@\"«»\[\]|:]+")
 CAMEL = re.compile(r"[a-z][a-z0-9]*(?:[A-Z][a-z0-9]*)+(?:-[a-z0-9_]+)*$|[a-z][a-z0-9_]*(?:-[a-z][a-z0-9]*)*-[a-z][a-z0-9]*(?:[A-Z][a-z0-9]*)+$")
 FACT = re.compile(r"[A-Z][a-z0-9]*(?:-[A-Za-z0-9]+)+$")
 # A fact's name is turned only where some file declares it: a step that Rattle names after a variant has the same shape.
-DECLARED = re.compile(r"^(?:abbrev |unfoldable |pub |data |record |mutual )*([A-Z][a-z0-9]*(?:-[A-Za-z0-9]+)+)\s*(?=[:({=])", re.M)
+DECLARED = re.compile(r"^ *(?:abbrev |unfoldable |pub |data |record |mutual )*([A-Z][a-z0-9]*(?:-[A-Za-z0-9]+)+)\s*(?=[:({=])", re.M)
 LOCAL = re.compile(r"[({]\s*([A-Z][a-z0-9]*(?:-[a-z][A-Za-z0-9]*)+)(?: [^(){}:]*)? :")
 WORDS = {
     "a-second-before": "a_second_before",
@@ -36,6 +36,8 @@ LEMMAS = {
     "connector/proofs/Endings.antt": {"read_as": "read-as-answer"},
     "routing/proofs/LookUp.antt": {"best_of": "best-of"},
 }
+# Lemmas that begin with a type's name, which keeps its capital and its dash.
+LAWS = {"All-push", "Bool-set"}
 # The name of a packet's field in Interledger's own documents: it stays in comments and in strings.
 PROSE = {"triggeredBy"}
 
@@ -89,6 +91,7 @@ def main(argv):
     for p, t in texts.items():
         if p.endswith(".antt"):
             facts |= set(DECLARED.findall(t)) | set(LOCAL.findall(t))
+    facts -= LAWS
     changed = 0
     for p, t in texts.items():
         comment = "(?<![^\\s])--" if p.endswith(".antt") else "//"

@@ -17,17 +17,17 @@ use Rattle.protocol.specs.declared.refusal.Refusal.TheVariants as refusal
 use Rattle.protocol.specs.Outcomes.{SetUp, Reply, refused, Outcome, refuses, marks, ends, ends_none, ours}
 use Rattle.protocol.specs.Calls
 use Rattle.protocol.specs.Calls.{room_needed, time_at, by_prepare, prepare_outcome, sent_outcome, unsent_outcome, answer_outcome, tick_outcome}
-use Rattle.protocol.specs.Turns.{Turns-out, Stack-after}
+use Rattle.protocol.specs.Turns.{TurnsOut, StackAfter}
 
 module _ {St : Type 0} (held : St → List ℕ) where
   -- a call that turns out so turns out as what it comes to
-  pub turned_so : {s : SetUp} {b b' : Books} {p p' : St} {o q : Outcome} {buffer buffer' : List ℕ} {reply : Reply} → o ≡ q → Turns-out held s b p q buffer reply b' p' buffer' → Turns-out held s b p o buffer reply b' p' buffer'
-  turned_so {s} {b} {b'} {p} {p'} {o} {q} {buffer} {buffer'} {reply} e t = subst (λ x. Turns-out held s b p x buffer reply b' p' buffer') (sym e) t
+  pub turned_so : {s : SetUp} {b b' : Books} {p p' : St} {o q : Outcome} {buffer buffer' : List ℕ} {reply : Reply} → o ≡ q → TurnsOut held s b p q buffer reply b' p' buffer' → TurnsOut held s b p o buffer reply b' p' buffer'
+  turned_so {s} {b} {b'} {p} {p'} {o} {q} {buffer} {buffer'} {reply} e t = subst (λ x. TurnsOut held s b p x buffer reply b' p' buffer') (sym e) t
 
   -- a refused call leaves all as it was
-  pub refused-so : (s : SetUp) (b : Books) (p : St) (o : Outcome) (x : Refusal) (buffer : List ℕ) → o ≡ refuses x → Turns-out held s b p o buffer (refused x) b p buffer
+  pub refused-so : (s : SetUp) (b : Books) (p : St) (o : Outcome) (x : Refusal) (buffer : List ℕ) → o ≡ refuses x → TurnsOut held s b p o buffer (refused x) b p buffer
   refused-so s b p o x buffer e =
-      subst (λ q. Turns-out held s b p q buffer (refused x) b p buffer) (sym e)
+      subst (λ q. TurnsOut held s b p q buffer (refused x) b p buffer) (sym e)
       (record { answer = refl; books = refl; stack = refl; buffer-now = refl })
 
 -- SENT

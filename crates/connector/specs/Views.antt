@@ -15,7 +15,7 @@ module _ {S H : Type 0} where
   set_up_of c = record { own = own_bytes c.own; routes = listed c.routes }
 
   -- what no call changes
-  pub record Set-up-stays (before after : Connector S H) : Type 0 where
+  pub record SetUpStays (before after : Connector S H) : Type 0 where
     pub routes : after.routes ≡ before.routes
     pub own : after.own ≡ before.own
     pub hash : after.hash ≡ before.hash

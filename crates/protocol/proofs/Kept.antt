@@ -9,7 +9,7 @@ use Rattle.ledger.specs.Books.{Books, figures_at}
 use Rattle.ledger.proofs.RowLaws.{lookup-number}
 use Rattle.protocol.specs.Outcomes.{SetUp, Reply, forwarded}
 use Rattle.protocol.specs.Sheet.{Event, event, prepare, Sheet, sheet, with-event, decided, hits, times_ended, time_of}
-use Rattle.protocol.specs.Runs.{numbers_of, Among, Forwarding, StandsFor, PendingUntilDecided, Origin, Records-match, BalancesMatch, Decided-right, A-fulfilment-needs-the-secret-in-time, Promise}
+use Rattle.protocol.specs.Runs.{numbers_of, Among, Forwarding, StandsFor, PendingUntilDecided, Origin, RecordsMatch, BalancesMatch, DecidedRight, AFulfilmentNeedsTheSecretInTime, Promise}
 use Rattle.protocol.proofs.RowFacts.{numbered, given, given-one, counted_none, counted-some, all_found}
 use Rattle.protocol.proofs.AccountFacts.{EachMatches}
 
@@ -91,7 +91,7 @@ module _ (digest : List ℕ → List ℕ) {St : Type 0} (held : St → List ℕ)
     pub numbers : Numbered es b.last
     pub origins : All (Origin es) b.rows
     pub accounts : EachMatches first.accounts bal (λ k. sum_in k b.rows) (λ k. sum_out k b.rows) b.accounts
-    pub decisive : A-fulfilment-needs-the-secret-in-time digest s.own es
+    pub decisive : AFulfilmentNeedsTheSecretInTime digest s.own es
 
   -- one event more
   pub push : (e : Event) (es : List Event) (b b' : Books) (p p' : St) (k : Kept es b p) (bal' : ℕ → ℤ) (d : Option Pending) →
@@ -103,7 +103,7 @@ module _ (digest : List ℕ → List ℕ) {St : Type 0} (held : St → List ℕ)
       b.last ≤ b'.last →
       All (Origin (e ∷ es)) b'.rows →
       EachMatches first.accounts bal' (λ k. sum_in k b'.rows) (λ k. sum_out k b'.rows) b'.accounts →
-      ((r : Pending) → d ≡ Some r → Decided-right digest s.own (time_of b.time e.call) es e r) →
+      ((r : Pending) → d ≡ Some r → DecidedRight digest s.own (time_of b.time e.call) es e r) →
       Kept (e ∷ es) b' p'
   push e es b b' p p' k bal' d n dd h counts new up origins accounts right =
       record {
@@ -115,7 +115,7 @@ module _ (digest : List ℕ → List ℕ) {St : Type 0} (held : St → List ℕ)
         origins = origins;
         accounts = accounts;
         decisive = (
-          subst (λ (w : Sheet). (r : Pending) → decided e w ≡ Some r → Decided-right digest s.own (time_of w.time e.call) es e r) (sym k.is)
+          subst (λ (w : Sheet). (r : Pending) → decided e w ≡ Some r → DecidedRight digest s.own (time_of w.time e.call) es e r) (sym k.is)
               (λ r q. right r (sym dd ∙ q)),
           k.decisive,
         );
@@ -145,7 +145,7 @@ module _ (digest : List ℕ → List ℕ) {St : Type 0} (held : St → List ℕ)
   pub promised : (es : List Event) (b : Books) (p : St) → Kept es b p → Promise digest held s first es b p
   promised es b p k =
       record {
-        records-match-the-sheet = subst (λ (w : Sheet). Records-match held w b p) (sym k.is) (record { rows = refl; open-numbers = k.opened; time = refl; last = refl });
+        records-match-the-sheet = subst (λ (w : Sheet). RecordsMatch held w b p) (sym k.is) (record { rows = refl; open-numbers = k.opened; time = refl; last = refl });
         pending-until-its-decisive-call = until es b p k;
         balances-match-the-sheet = subst (λ (w : Sheet). BalancesMatch first w b) (sym k.is) (record { same-accounts = k.accounts.0; each = k.accounts.1 });
         a-fulfilment-needs-the-secret-in-time = k.decisive;

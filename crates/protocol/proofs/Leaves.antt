@@ -29,9 +29,9 @@ use Rattle.protocol.specs.declared.refusal.Refusal.{Refusal}
 use Rattle.protocol.specs.Messages.{prepare_in, Answered, fulfilled, declined, answer_in, onward, forwarded_bytes, our_bytes}
 use Rattle.protocol.specs.Outcomes.{SetUp, Reply, refused, rejected, forwarded, noted, ended, none_due, balance, Ending, paid, passed_on, ours, is_paid, Outcome, refuses, rejects, forwards, marks, ends, ends_none, settles}
 use Rattle.protocol.specs.Calls.{time_at, offered, reservation_for, ending_by}
-use Rattle.protocol.specs.Turns.{books_after, ending_bytes, written, reply_of, Stack-after}
+use Rattle.protocol.specs.Turns.{books_after, ending_bytes, written, reply_of, StackAfter}
 use Rattle.protocol.specs.Sheet.{Call, prepare, sent, unsent, answer, tick, settle, Event, event, Sheet, sheet, sent_to, time_of, with-event, decided, hits, changed, moved, pays, fulfils, with_time, with_rows, with_balances, remove, add_row, pay_if}
-use Rattle.protocol.specs.Runs.{numbers_of, Among, Forwarding, StandsFor, Origin, AccountMatches, Fulfilling, Decided-right, answer_reject, due_reject}
+use Rattle.protocol.specs.Runs.{numbers_of, Among, Forwarding, StandsFor, Origin, AccountMatches, Fulfilling, DecidedRight, answer_reject, due_reject}
 use Rattle.protocol.proofs.RowFacts.{numbers-marked, numbers-dropped, due-found, all-dropped, all-marked, all_found, numbered, given, given-more}
 use Rattle.protocol.proofs.AccountFacts.{EachMatches, accounts-hold, accounts-end, accounts-settle, small-enough}
 use Rattle.protocol.proofs.Again.{onward-again, ours-again}
@@ -116,7 +116,7 @@ module _ (digest : List ℕ → List ℕ) {St : Type 0} (held : St → List ℕ)
         with-event digest e (shown b k.bal) ≡ shown (books_after b (ends now r en)) (cond (is_paid en) (pays r k.bal) k.bal) →
         decided e (shown b k.bal) ≡ Some r →
         sent_to e.reply ≡ None →
-        Decided-right digest s.own (time_of b.time e.call) es e r →
+        DecidedRight digest s.own (time_of b.time e.call) es e r →
         Held (e ∷ es) (books_after b (ends now r en)) p'
     by_end e now r en es b p p' k found hh n d none right =
         push digest held s first e es b (books_after b (ends now r en)) p p' k (cond (is_paid en) (pays r k.bal) k.bal) (Some r) n d
@@ -126,14 +126,14 @@ module _ (digest : List ℕ → List ℕ) {St : Type 0} (held : St → List ℕ)
         (omega arith)
         (all-dropped (Origin (e ∷ es)) r.number b.rows (All-weaker (Origin es) (Origin (e ∷ es)) (origin-more e es) b.rows k.origins))
         (accounts-end (is_paid en) first.accounts b.accounts k.bal b.rows r found k.accounts)
-        (λ x q. let g : r ≡ x = cc in subst (Decided-right digest s.own (time_of b.time e.call) es e) g right)
+        (λ x q. let g : r ≡ x = cc in subst (DecidedRight digest s.own (time_of b.time e.call) es e) g right)
 
     -- where a call cannot fulfil, it writes the Reject of the rules, and no Fulfill
     not-fulfilling : (now : ℕ) (es : List Event) (e : Event) (r : Pending) →
         (Fulfilling digest now e.call r → ⊥) →
         e.packet ≡ due_reject s.own now e.call r →
         ((f : FulfillValue) → answer_in e.packet ≡ Ok (fulfilled f) → ⊥) →
-        Decided-right digest s.own now es e r
+        DecidedRight digest s.own now es e r
     not-fulfilling now es e r cannot same reads =
         record { fulfills = λ f. absurd (cannot f); in-time = λ f. absurd (cannot f); rejects = λ _. same; only_then = λ f q. absurd (reads f q) }
 
@@ -186,7 +186,7 @@ module _ (digest : List ℕ → List ℕ) {St : Type 0} (held : St → List ℕ)
       late-reject now bytes r (fulfilled f) e = sym (ap (λ c. cond c (our_bytes s.own code.WrongCondition 0 0) (our_bytes s.own code.TransferTimedOut 0 0)) e)
 
       late-right : (now a n t : ℕ) (bytes : List ℕ) (reply : Reply) (r : Pending) (x : Answered) (es : List Event) → answer_in bytes ≡ Ok x → ltb now r.expiry ≡ false →
-          Decided-right digest s.own now es (event (answer a n t bytes) reply (our_bytes s.own code.TransferTimedOut 0 0)) r
+          DecidedRight digest s.own now es (event (answer a n t bytes) reply (our_bytes s.own code.TransferTimedOut 0 0)) r
       late-right now a n t bytes reply r x es reads e =
           not-fulfilling now es (event (answer a n t bytes) reply (our_bytes s.own code.TransferTimedOut 0 0)) r
           (λ g. true≢false (sym (lt-ltb now r.expiry g.before) ∙ e))
@@ -195,7 +195,7 @@ module _ (digest : List ℕ → List ℕ) {St : Type 0} (held : St → List ℕ)
 
       -- in time, with the peer's Reject
       theirs-right : (now a n t : ℕ) (bytes : List ℕ) (reply : Reply) (r : Pending) (x : RejectValue) (es : List Event) → answer_in bytes ≡ Ok (declined x) → ltb now r.expiry ≡ true →
-          Decided-right digest s.own now es (event (answer a n t bytes) reply bytes) r
+          DecidedRight digest s.own now es (event (answer a n t bytes) reply bytes) r
       theirs-right now a n t bytes reply r x es reads e =
           not-fulfilling now es (event (answer a n t bytes) reply bytes) r
           (λ g. let w = fulfilling-reads now a n t bytes r g in let v = w.1 in let z : ◌≡◌ {A = ℕ} 0 1 = cc in absurd (omega arith))
@@ -204,7 +204,7 @@ module _ (digest : List ℕ → List ℕ) {St : Type 0} (held : St → List ℕ)
 
       -- in time, with another hash
       wrong-right : (now a n t : ℕ) (bytes : List ℕ) (f : FulfillValue) (reply : Reply) (r : Pending) (es : List Event) → answer_in bytes ≡ Ok (fulfilled f) → ltb now r.expiry ≡ true → bytes_eq (digest f.fulfilment) r.condition ≡ false →
-          Decided-right digest s.own now es (event (answer a n t bytes) reply (our_bytes s.own code.WrongCondition 0 0)) r
+          DecidedRight digest s.own now es (event (answer a n t bytes) reply (our_bytes s.own code.WrongCondition 0 0)) r
       wrong-right now a n t bytes f reply r es reads e other =
           not-fulfilling now es (event (answer a n t bytes) reply (our_bytes s.own code.WrongCondition 0 0)) r
           (λ g.
@@ -217,7 +217,7 @@ module _ (digest : List ℕ → List ℕ) {St : Type 0} (held : St → List ℕ)
 
       -- in time, with the fulfilment
       paid-right : (a n t : ℕ) (bytes : List ℕ) (f : FulfillValue) (reply : Reply) (r : Pending) (es : List Event) (b : Books) (p : St) → Held es b p → lookup n b.rows ≡ Some r → answer_in bytes ≡ Ok (fulfilled f) → ltb (time_at b t) r.expiry ≡ true → bytes_eq (digest f.fulfilment) r.condition ≡ true →
-          Decided-right digest s.own (time_at b t) es (event (answer a n t bytes) reply bytes) r
+          DecidedRight digest s.own (time_at b t) es (event (answer a n t bytes) reply bytes) r
       paid-right a n t bytes f reply r es b p k found reads e same =
           let l : time_at b t < r.expiry = ltb-true (time_at b t) r.expiry e in
           let g : Fulfilling digest (time_at b t) (answer a n t bytes) r =
@@ -231,20 +231,20 @@ module _ (digest : List ℕ → List ℕ) {St : Type 0} (held : St → List ℕ)
           }
 
       -- an answer's ending: whether it pays, and that the packet is right
-      abbrev Ending-right : (a n t : ℕ) (bytes : List ℕ) (reply : Reply) (r : Pending) (es : List Event) (b : Books) (pay : Bool) (en : Ending) → Type 0
-      Ending-right a n t bytes reply r es b pay en =
-          (pay ≡ is_paid en) × Decided-right digest s.own (time_at b t) es (event (answer a n t bytes) reply (ending_bytes s.own en)) r
+      abbrev EndingRight : (a n t : ℕ) (bytes : List ℕ) (reply : Reply) (r : Pending) (es : List Event) (b : Books) (pay : Bool) (en : Ending) → Type 0
+      EndingRight a n t bytes reply r es b pay en =
+          (pay ≡ is_paid en) × DecidedRight digest s.own (time_at b t) es (event (answer a n t bytes) reply (ending_bytes s.own en)) r
 
       answer-right : (a n t : ℕ) (bytes : List ℕ) (reply : Reply) (r : Pending) (x : Answered) (es : List Event) (b : Books) (p : St) → Held es b p → lookup n b.rows ≡ Some r → answer_in bytes ≡ Ok x →
-          Ending-right a n t bytes reply r es b (fulfils digest (time_at b t) r x) (ending_by digest (time_at b t) bytes r x)
+          EndingRight a n t bytes reply r es b (fulfils digest (time_at b t) r x) (ending_by digest (time_at b t) bytes r x)
       answer-right a n t bytes reply r (declined x) es b p k found reads = go (ltb (time_at b t) r.expiry) refl
         where
-          go : (c : Bool) → ltb (time_at b t) r.expiry ≡ c → Ending-right a n t bytes reply r es b false (cond c (passed_on bytes) (ours code.TransferTimedOut))
+          go : (c : Bool) → ltb (time_at b t) r.expiry ≡ c → EndingRight a n t bytes reply r es b false (cond c (passed_on bytes) (ours code.TransferTimedOut))
           go true e = (refl, theirs-right (time_at b t) a n t bytes reply r x es reads e)
           go false e = (refl, late-right (time_at b t) a n t bytes reply r (declined x) es reads e)
       answer-right a n t bytes reply r (fulfilled f) es b p k found reads = go (ltb (time_at b t) r.expiry) (bytes_eq (digest f.fulfilment) r.condition) refl refl
         where
-          go : (c d : Bool) → ltb (time_at b t) r.expiry ≡ c → bytes_eq (digest f.fulfilment) r.condition ≡ d → Ending-right a n t bytes reply r es b (c && d) (cond c (cond d (paid bytes) (ours code.WrongCondition)) (ours code.TransferTimedOut))
+          go : (c d : Bool) → ltb (time_at b t) r.expiry ≡ c → bytes_eq (digest f.fulfilment) r.condition ≡ d → EndingRight a n t bytes reply r es b (c && d) (cond c (cond d (paid bytes) (ours code.WrongCondition)) (ours code.TransferTimedOut))
           go true true e same = (refl, paid-right a n t bytes f reply r es b p k found reads e same)
           go true false e same = (refl, wrong-right (time_at b t) a n t bytes f reply r es reads e same)
           go false true e same = (refl, late-right (time_at b t) a n t bytes reply r (fulfilled f) es reads e)

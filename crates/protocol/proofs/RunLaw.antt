@@ -36,9 +36,9 @@ use Rattle.protocol.specs.Messages.{prepare_in, Answered, answer_in, onward}
 use Rattle.protocol.specs.Outcomes.{SetUp, Reply, Outcome, refuses, rejects, forwards, marks, ends, ends_none, settles, ours}
 use Rattle.protocol.specs.Calls
 use Rattle.protocol.specs.Calls.{time_at, room_needed, offered, reservation_for, plain_reject, prepare_outcome, sent_outcome, unsent_outcome, answer_outcome, tick_outcome, settle_outcome}
-use Rattle.protocol.specs.Turns.{books_after, written, reply_of, Stack-after, Turns-out}
+use Rattle.protocol.specs.Turns.{books_after, written, reply_of, StackAfter, TurnsOut}
 use Rattle.protocol.specs.Sheet.{Call, prepare, sent, unsent, answer, tick, settle, Event, event, told, packet_in}
-use Rattle.protocol.specs.Runs.{numbers_of, Among, AccountMatches, NewConnector, Origin, Promise, Run, begun, prepared, sent-on, not-sent, answered, ticked, settled, After-every-prefix, EveryRun}
+use Rattle.protocol.specs.Runs.{numbers_of, Among, AccountMatches, NewConnector, Origin, Promise, Run, begun, prepared, sent-on, not-sent, answered, ticked, settled, AfterEveryPrefix, EveryRun}
 use Rattle.protocol.proofs.RowFacts.{given-none}
 use Rattle.protocol.proofs.Kept.{shown, Kept, Numbered, promised}
 use Rattle.protocol.proofs.Leaves.{by-refusal, by-reject, by-none, by-settling, by-mark, by-unsent, by-tick, by_answer, by-forward}
@@ -74,8 +74,8 @@ module _ (digest : List ℕ → List ℕ) {St : Type 0} (held : St → List ℕ)
 
   module _ (first : Books) where
     -- so the event is determined by how the call turned out
-    turned : (c : Call) (es : List Event) (b b' : Books) (p p' : St) (o : Outcome) (buffer buffer' : List ℕ) (reply : Reply) → Turns-out held s b p o buffer reply b' p' buffer' →
-        (Stack-after held p o p' → Kept digest held s first (event c (reply_of s o) (written s o) ∷ es) (books_after b o) p') →
+    turned : (c : Call) (es : List Event) (b b' : Books) (p p' : St) (o : Outcome) (buffer buffer' : List ℕ) (reply : Reply) → TurnsOut held s b p o buffer reply b' p' buffer' →
+        (StackAfter held p o p' → Kept digest held s first (event c (reply_of s o) (written s o) ∷ es) (books_after b o) p') →
         Kept digest held s first (event c reply (packet_in reply buffer') ∷ es) b' p'
     turned c es b b' p p' o buffer buffer' reply t f =
         let packet : packet_in reply buffer' ≡ written s o =
@@ -85,8 +85,8 @@ module _ (digest : List ℕ → List ℕ) {St : Type 0} (held : St → List ℕ)
         (subst (λ x. Kept digest held s first (event c (reply_of s o) (written s o) ∷ es) x p') (sym t.books) (f t.stack)))
 
     -- and where there is no buffer
-    turned_plain : (c : Call) (es : List Event) (b b' : Books) (p p' : St) (o : Outcome) (reply : Reply) → Turns-out held s b p o [] reply b' p' [] →
-        (Stack-after held p o p' → Kept digest held s first (event c (reply_of s o) [] ∷ es) (books_after b o) p') →
+    turned_plain : (c : Call) (es : List Event) (b b' : Books) (p p' : St) (o : Outcome) (reply : Reply) → TurnsOut held s b p o [] reply b' p' [] →
+        (StackAfter held p o p' → Kept digest held s first (event c (reply_of s o) [] ∷ es) (books_after b o) p') →
         Kept digest held s first (event c reply [] ∷ es) b' p'
     turned_plain c es b b' p p' o reply t f =
         subst (λ x. Kept digest held s first (event c x [] ∷ es) b' p') (sym t.answer)
@@ -108,7 +108,7 @@ module _ (digest : List ℕ → List ℕ) {St : Type 0} (held : St → List ℕ)
   module _ (first : Books) (valid : is_address s.own ≡ true) (rule : St → Transfer → Verdict) (later : (x : St) (t : Transfer) → NotLater t (rule x t)) (once : (x : St) → none_twice (held x) ≡ true) where
     -- what is kept, if a call turned out so
     abbrev So : Call → List Event → Books → St → St → Outcome → Type 0
-    So c es b p p' o = Stack-after held p o p' → Kept digest held s first (event c (reply_of s o) (written s o) ∷ es) (books_after b o) p'
+    So c es b p p' o = StackAfter held p o p' → Kept digest held s first (event c (reply_of s o) (written s o) ∷ es) (books_after b o) p'
 
     no_way : (c : Call) (x : Refusal) (es : List Event) (b : Books) (p p' : St) → Kept digest held s first es b p → So c es b p p' (refuses x)
     no_way c x es b p p' k pp = by-refusal digest held s first c x [] es b p p' k pp
@@ -166,13 +166,13 @@ module _ (digest : List ℕ → List ℕ) {St : Type 0} (held : St → List ℕ)
             (λ _. no-go code.InternalError 0 0 None)
 
     sent-so : (n : ℕ) (es : List Event) (b : Books) (p p' : St) → Kept digest held s first es b p →
-        Stack-after held p (sent_outcome b n) p' →
+        StackAfter held p (sent_outcome b n) p' →
         Kept digest held s first (event (sent n) (reply_of s (sent_outcome b n)) [] ∷ es) (books_after b (sent_outcome b n)) p'
     unfolding sent_outcome
     sent-so n es b p p' k = by_row (lookup n b.rows)
       where
         Q : Outcome → Type 0
-        Q o = Stack-after held p o p' → Kept digest held s first (event (sent n) (reply_of s o) [] ∷ es) (books_after b o) p'
+        Q o = StackAfter held p o p' → Kept digest held s first (event (sent n) (reply_of s o) [] ∷ es) (books_after b o) p'
 
         by_row : (x : Option Pending) → Q (Calls.if_unsent x (λ r. marks n))
         by_row None = λ pp. by-refusal digest held s first (sent n) refusal.NotPending [] es b p p' k pp
@@ -234,13 +234,13 @@ module _ (digest : List ℕ → List ℕ) {St : Type 0} (held : St → List ℕ)
         by_row (Some r) e = λ hh. by-tick digest held s first once valid t r es b p p' k e hh.0
 
     settle-so : (a way m : ℕ) (es : List Event) (b : Books) (p p' : St) → Kept digest held s first es b p →
-        Stack-after held p (settle_outcome b a way m) p' →
+        StackAfter held p (settle_outcome b a way m) p' →
         Kept digest held s first (event (settle a way m) (reply_of s (settle_outcome b a way m)) [] ∷ es) (books_after b (settle_outcome b a way m)) p'
     unfolding settle_outcome
     settle-so a way m es b p p' k = by-account (is_set_up b.accounts a)
       where
         Q : Outcome → Type 0
-        Q o = Stack-after held p o p' → Kept digest held s first (event (settle a way m) (reply_of s o) [] ∷ es) (books_after b o) p'
+        Q o = StackAfter held p o p' → Kept digest held s first (event (settle a way m) (reply_of s o) [] ∷ es) (books_after b o) p'
 
         f : Figures
         f = figures_at b a

@@ -19,7 +19,7 @@ use Rattle.ledger.specs.Books.{Books, figures_at, new_books}
 use Rattle.routing.specs.Routes.{routes_fit}
 use Rattle.protocol.specs.Messages.{prepare_in, Answered, fulfilled, declined, answer_in, our_bytes}
 use Rattle.protocol.specs.Outcomes.{SetUp, Reply, forwarded}
-use Rattle.protocol.specs.Turns.{Prepare-does, Sent-does, Unsent-does, Answer-does, Tick-does, Settle-does}
+use Rattle.protocol.specs.Turns.{PrepareDoes, SentDoes, UnsentDoes, AnswerDoes, TickDoes, SettleDoes}
 use Rattle.protocol.specs.Sheet.{Call, prepare, sent, unsent, answer, tick, settle, Event, event, Sheet, sheet, packet_in, decided, times_ended, time_of}
 
 -- what a connector starts from: one to eight new accounts, nothing pending, our own address and the routes
@@ -41,7 +41,7 @@ abbrev pub numbers_of : List Pending → List ℕ
 numbers_of = map (λ (r : Pending). r.number)
 
 module _ {St : Type 0} (held : St → List ℕ) where
-  pub record Records-match (s : Sheet) (b : Books) (p : St) : Type 0 where
+  pub record RecordsMatch (s : Sheet) (b : Books) (p : St) : Type 0 where
     -- the pending records are, in all that a row has, the rows of the sheet
     pub rows : b.rows ≡ s.rows
     -- the open numbers of the stack are the pending numbers
@@ -132,7 +132,7 @@ pub record Origin (es : List Event) (r : Pending) : Type 0 where
 
 module _ (digest : List ℕ → List ℕ) where
   -- what a call writes that is decisive for a row, at a connector time now
-  pub record Decided-right (own : List ℕ) (now : ℕ) (es : List Event) (e : Event) (r : Pending) : Type 0 where
+  pub record DecidedRight (own : List ℕ) (now : ℕ) (es : List Event) (e : Event) (r : Pending) : Type 0 where
     -- where it fulfils, it writes the peer's Fulfill
     pub fulfills : (f : Fulfilling digest now e.call r) → e.packet ≡ f.bytes
     -- before the expiry that was read in the forwarded Prepare, too
@@ -142,19 +142,19 @@ module _ (digest : List ℕ → List ℕ) where
     -- and so it writes a Fulfill only where it fulfils
     pub only_then : (f : FulfillValue) → answer_in e.packet ≡ Ok (fulfilled f) → Fulfilling digest now e.call r
 
-  abbrev pub A-fulfilment-needs-the-secret-in-time : List ℕ → List Event → Type 0
-  A-fulfilment-needs-the-secret-in-time own [] = Unit {0}
-  A-fulfilment-needs-the-secret-in-time own (e ∷ es) =
-      ((r : Pending) → decided e (sheet digest es) ≡ Some r → Decided-right own (time_of (sheet digest es).time e.call) es e r)
-      × A-fulfilment-needs-the-secret-in-time own es
+  abbrev pub AFulfilmentNeedsTheSecretInTime : List ℕ → List Event → Type 0
+  AFulfilmentNeedsTheSecretInTime own [] = Unit {0}
+  AFulfilmentNeedsTheSecretInTime own (e ∷ es) =
+      ((r : Pending) → decided e (sheet digest es) ≡ Some r → DecidedRight own (time_of (sheet digest es).time e.call) es e r)
+      × AFulfilmentNeedsTheSecretInTime own es
 
   module _ {St : Type 0} (held : St → List ℕ) where
     -- all of it, of the events so far and what they came to
     pub record Promise (s : SetUp) (first : Books) (es : List Event) (b : Books) (p : St) : Type 0 where
-      pub records-match-the-sheet : Records-match held (sheet digest es) b p
+      pub records-match-the-sheet : RecordsMatch held (sheet digest es) b p
       pub pending-until-its-decisive-call : PendingUntilDecided digest es b
       pub balances-match-the-sheet : BalancesMatch first (sheet digest es) b
-      pub a-fulfilment-needs-the-secret-in-time : A-fulfilment-needs-the-secret-in-time s.own es
+      pub a-fulfilment-needs-the-secret-in-time : AFulfilmentNeedsTheSecretInTime s.own es
 
     module _ (rule : St → Transfer → Verdict) where
       -- A run: its events, the latest first, and the books and the stack that they came to. Any call may come at any
@@ -162,25 +162,25 @@ module _ (digest : List ℕ → List ℕ) where
       pub data Run (s : SetUp) (first : Books) : List Event → Books → St → Type 0 where
         begun : (p : St) → NewConnector s first → held p ≡ [] → Run s first [] first p
         prepared : {es : List Event} {b b' : Books} {p p' : St} (a q t : ℕ) (bytes buffer buffer' : List ℕ) (r : Reply) → Bytes bytes →
-            Run s first es b p → Prepare-does held rule s b p a q t bytes buffer r b' p' buffer' → Run s first (event (prepare a q t bytes) r (packet_in r buffer') ∷ es) b' p'
+            Run s first es b p → PrepareDoes held rule s b p a q t bytes buffer r b' p' buffer' → Run s first (event (prepare a q t bytes) r (packet_in r buffer') ∷ es) b' p'
         sent-on : {es : List Event} {b b' : Books} {p p' : St} (n : ℕ) (r : Reply) →
-            Run s first es b p → Sent-does held s b p n r b' p' → Run s first (event (sent n) r [] ∷ es) b' p'
+            Run s first es b p → SentDoes held s b p n r b' p' → Run s first (event (sent n) r [] ∷ es) b' p'
         not-sent : {es : List Event} {b b' : Books} {p p' : St} (n : ℕ) (buffer buffer' : List ℕ) (r : Reply) →
-            Run s first es b p → Unsent-does held s b p n buffer r b' p' buffer' → Run s first (event (unsent n) r (packet_in r buffer') ∷ es) b' p'
+            Run s first es b p → UnsentDoes held s b p n buffer r b' p' buffer' → Run s first (event (unsent n) r (packet_in r buffer') ∷ es) b' p'
         answered : {es : List Event} {b b' : Books} {p p' : St} (a n t : ℕ) (bytes buffer buffer' : List ℕ) (r : Reply) →
-            Run s first es b p → Answer-does held digest s b p a n t bytes buffer r b' p' buffer' → Run s first (event (answer a n t bytes) r (packet_in r buffer') ∷ es) b' p'
+            Run s first es b p → AnswerDoes held digest s b p a n t bytes buffer r b' p' buffer' → Run s first (event (answer a n t bytes) r (packet_in r buffer') ∷ es) b' p'
         ticked : {es : List Event} {b b' : Books} {p p' : St} (t : ℕ) (buffer buffer' : List ℕ) (r : Reply) →
-            Run s first es b p → Tick-does held s b p t buffer r b' p' buffer' → Run s first (event (tick t) r (packet_in r buffer') ∷ es) b' p'
+            Run s first es b p → TickDoes held s b p t buffer r b' p' buffer' → Run s first (event (tick t) r (packet_in r buffer') ∷ es) b' p'
         settled : {es : List Event} {b b' : Books} {p p' : St} (a way amount : ℕ) (r : Reply) →
-            Run s first es b p → Settle-does held s b p a way amount r b' p' → Run s first (event (settle a way amount) r [] ∷ es) b' p'
+            Run s first es b p → SettleDoes held s b p a way amount r b' p' → Run s first (event (settle a way amount) r [] ∷ es) b' p'
 
       -- the promise after every prefix of a run: each prefix is a run itself
-      abbrev pub After-every-prefix : SetUp → Books → List Event → Type 0
-      After-every-prefix s first es =
+      abbrev pub AfterEveryPrefix : SetUp → Books → List Event → Type 0
+      AfterEveryPrefix s first es =
           (later earlier : List Event) → es ≡ later ++ earlier → (b : Books) × (p : St) × Run s first earlier b p × Promise s first earlier b p
 
 -- for every set-up, every run and every prefix of it
 abbrev pub EveryRun : {St : Type 0} → (St → List ℕ) → (St → Transfer → Verdict) → (List ℕ → List ℕ) → Type 0
 EveryRun {St} held rule digest =
     (s : SetUp) (first b : Books) (es : List Event) (p : St) → Run digest held rule s first es b p
-    → Promise digest held s first es b p × After-every-prefix digest held rule s first es
+    → Promise digest held s first es b p × AfterEveryPrefix digest held rule s first es

@@ -54,37 +54,37 @@ reply_of s (settles a z) = balance z
 module _ {St : Type 0} (held : St → List ℕ) where
   -- What is left free: how the stack looks inside after it took a number or closed one. Of its open numbers nothing is
   -- free: it takes what is forwarded, closes what is ended, and is asked for no other change.
-  abbrev pub Stack-after : St → Outcome → St → Type 0
-  Stack-after p (refuses r) p' = p' ≡ p
-  Stack-after p (rejects now a q c x y f) p' = p' ≡ p
-  Stack-after p (forwards now r w) p' = held p' ≡ held p ++ r.number ∷ []
-  Stack-after p (marks n) p' = p' ≡ p
-  Stack-after p (ends now r e) p' = (held p' ≡ without (held p) r.number) × (among (held p) r.number ≡ false → p' ≡ p)
-  Stack-after p (ends_none now) p' = p' ≡ p
-  Stack-after p (settles a z) p' = p' ≡ p
+  abbrev pub StackAfter : St → Outcome → St → Type 0
+  StackAfter p (refuses r) p' = p' ≡ p
+  StackAfter p (rejects now a q c x y f) p' = p' ≡ p
+  StackAfter p (forwards now r w) p' = held p' ≡ held p ++ r.number ∷ []
+  StackAfter p (marks n) p' = p' ≡ p
+  StackAfter p (ends now r e) p' = (held p' ≡ without (held p) r.number) × (among (held p) r.number ≡ false → p' ≡ p)
+  StackAfter p (ends_none now) p' = p' ≡ p
+  StackAfter p (settles a z) p' = p' ≡ p
 
   -- a call turned out so: its answer, the books, the stack, and every byte of the buffer
-  pub record Turns-out (s : SetUp) (b : Books) (p : St) (o : Outcome) (buffer : List ℕ) (reply : Reply) (b' : Books) (p' : St) (buffer' : List ℕ) : Type 0 where
+  pub record TurnsOut (s : SetUp) (b : Books) (p : St) (o : Outcome) (buffer : List ℕ) (reply : Reply) (b' : Books) (p' : St) (buffer' : List ℕ) : Type 0 where
     pub answer : reply ≡ reply_of s o
     pub books : b' ≡ books_after b o
-    pub stack : Stack-after p o p'
+    pub stack : StackAfter p o p'
     pub buffer-now : buffer' ≡ written s o ++ drop (length (written s o)) buffer
 
   -- the calls that write nothing have no buffer
-  abbrev pub Sent-does : SetUp → Books → St → (n : ℕ) → Reply → Books → St → Type 0
-  Sent-does s b p n reply b' p' = Turns-out s b p (sent_outcome b n) [] reply b' p' []
+  abbrev pub SentDoes : SetUp → Books → St → (n : ℕ) → Reply → Books → St → Type 0
+  SentDoes s b p n reply b' p' = TurnsOut s b p (sent_outcome b n) [] reply b' p' []
 
-  abbrev pub Unsent-does : SetUp → Books → St → (n : ℕ) → (buffer : List ℕ) → Reply → Books → St → List ℕ → Type 0
-  Unsent-does s b p n buffer = Turns-out s b p (unsent_outcome b (length buffer) n) buffer
+  abbrev pub UnsentDoes : SetUp → Books → St → (n : ℕ) → (buffer : List ℕ) → Reply → Books → St → List ℕ → Type 0
+  UnsentDoes s b p n buffer = TurnsOut s b p (unsent_outcome b (length buffer) n) buffer
 
-  abbrev pub Tick-does : SetUp → Books → St → (t : ℕ) → (buffer : List ℕ) → Reply → Books → St → List ℕ → Type 0
-  Tick-does s b p t buffer = Turns-out s b p (tick_outcome b (length buffer) t) buffer
+  abbrev pub TickDoes : SetUp → Books → St → (t : ℕ) → (buffer : List ℕ) → Reply → Books → St → List ℕ → Type 0
+  TickDoes s b p t buffer = TurnsOut s b p (tick_outcome b (length buffer) t) buffer
 
-  abbrev pub Settle-does : SetUp → Books → St → (a way amount : ℕ) → Reply → Books → St → Type 0
-  Settle-does s b p a way amount reply b' p' = Turns-out s b p (settle_outcome b a way amount) [] reply b' p' []
+  abbrev pub SettleDoes : SetUp → Books → St → (a way amount : ℕ) → Reply → Books → St → Type 0
+  SettleDoes s b p a way amount reply b' p' = TurnsOut s b p (settle_outcome b a way amount) [] reply b' p' []
 
-  abbrev pub Prepare-does : (St → Transfer → Verdict) → SetUp → Books → St → (a q t : ℕ) → (bytes buffer : List ℕ) → Reply → Books → St → List ℕ → Type 0
-  Prepare-does rule s b p a q t bytes buffer = Turns-out s b p (prepare_outcome (rule p) s b (length buffer) a q t bytes) buffer
+  abbrev pub PrepareDoes : (St → Transfer → Verdict) → SetUp → Books → St → (a q t : ℕ) → (bytes buffer : List ℕ) → Reply → Books → St → List ℕ → Type 0
+  PrepareDoes rule s b p a q t bytes buffer = TurnsOut s b p (prepare_outcome (rule p) s b (length buffer) a q t bytes) buffer
 
-  abbrev pub Answer-does : (List ℕ → List ℕ) → SetUp → Books → St → (a n t : ℕ) → (bytes buffer : List ℕ) → Reply → Books → St → List ℕ → Type 0
-  Answer-does digest s b p a n t bytes buffer = Turns-out s b p (answer_outcome digest b (length buffer) a n t bytes) buffer
+  abbrev pub AnswerDoes : (List ℕ → List ℕ) → SetUp → Books → St → (a n t : ℕ) → (bytes buffer : List ℕ) → Reply → Books → St → List ℕ → Type 0
+  AnswerDoes digest s b p a n t bytes buffer = TurnsOut s b p (answer_outcome digest b (length buffer) a n t bytes) buffer

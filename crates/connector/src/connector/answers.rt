@@ -7,10 +7,10 @@ ghost use Rattle.pending.specs.Rows.{lookup};
 ghost use Rattle.ledger.specs.Books.{closed};
 ghost use Rattle.protocol.specs.Calls.{room_needed, ending_by};
 ghost use Rattle.protocol.specs.Outcomes.{is_paid};
-ghost use Rattle.protocol.specs.Turns.{ended_as, ending_bytes, Answer-does};
+ghost use Rattle.protocol.specs.Turns.{ended_as, ending_bytes, AnswerDoes};
 ghost use Rattle.connector.specs.Endings.{ending_of, answered_by};
 ghost use Rattle.connector.specs.Replies.{end_reply};
-ghost use Rattle.connector.specs.Views.{books_of, set_up_of, Set-up-stays, SameUnless};
+ghost use Rattle.connector.specs.Views.{books_of, set_up_of, SetUpStays, SameUnless};
 
 use super::Connector;
 use crate::ending::Ending;
@@ -54,8 +54,8 @@ impl<S: Stage, H: ConditionHash> Connector<S, H> {
         bytes: &[u8],
         buffer: &mut [u8],
     ) -> Result<Ended, Refusal>
-        ensures does { Answer-does held digest_of (set_up_of self.old) (books_of self.old) self.old.stages account number time bytes.now buffer.old (end_reply result) (books_of self.new) self.new.stages buffer.new }
-        ensures kept { Set-up-stays self.old self.new }
+        ensures does { AnswerDoes held digest_of (set_up_of self.old) (books_of self.old) self.old.stages account number time bytes.now buffer.old (end_reply result) (books_of self.new) self.new.stages buffer.new }
+        ensures kept { SetUpStays self.old self.new }
         ensures unchanged { SameUnless (is_ok result) self.old self.new }
     {
         if buffer.len() < LONGEST_PACKET {
@@ -92,7 +92,7 @@ impl<S: Stage, H: ConditionHash> Connector<S, H> {
         ensures books { books_of self.new ≡ closed (is_paid (ending_of bytes.now ending)) row.now (books_of self.old) }
         ensures numbers { held self.new.stages ≡ without (held self.old.stages) row.now.number }
         ensures closed { among (held self.old.stages) row.now.number ≡ false → self.new.stages ≡ self.old.stages }
-        ensures kept { Set-up-stays self.old self.new }
+        ensures kept { SetUpStays self.old self.new }
     {
         match ending {
             Ending::Paid => {

@@ -5,9 +5,9 @@ ghost use Rattle.pending.specs.Rows.{lookup};
 ghost use Rattle.ledger.specs.Books.{closed};
 ghost use Rattle.protocol.specs.Calls.{room_needed};
 ghost use Rattle.protocol.specs.Messages.{our_bytes};
-ghost use Rattle.protocol.specs.Turns.{ended_as, Unsent-does, Tick-does};
+ghost use Rattle.protocol.specs.Turns.{ended_as, UnsentDoes, TickDoes};
 ghost use Rattle.connector.specs.Replies.{end_reply, tick_reply};
-ghost use Rattle.connector.specs.Views.{books_of, set_up_of, Set-up-stays, SameUnless};
+ghost use Rattle.connector.specs.Views.{books_of, set_up_of, SetUpStays, SameUnless};
 
 use super::Connector;
 use crate::duty::SendDuty;
@@ -29,7 +29,7 @@ impl<S: Stage, H: ConditionHash> Connector<S, H> {
         ensures books { books_of self.new ≡ closed fulfilled row.now (books_of self.old) }
         ensures numbers { held self.new.stages ≡ without (held self.old.stages) row.now.number }
         ensures closed { among (held self.old.stages) row.now.number ≡ false → self.new.stages ≡ self.old.stages }
-        ensures kept { Set-up-stays self.old self.new }
+        ensures kept { SetUpStays self.old self.new }
     {
         self.ledger.end(row.number, fulfilled);
         self.stages.close(row.number);
@@ -55,8 +55,8 @@ impl<S: Stage, H: ConditionHash> Connector<S, H> {
 
     // Ends the packet of a duty that could not be sent, by T01. A refused call spends the duty too.
     pub fn unsent(&mut self, duty: SendDuty, buffer: &mut [u8]) -> Result<Ended, Refusal>
-        ensures does { Unsent-does held (set_up_of self.old) (books_of self.old) self.old.stages duty.number buffer.old (end_reply result) (books_of self.new) self.new.stages buffer.new }
-        ensures kept { Set-up-stays self.old self.new }
+        ensures does { UnsentDoes held (set_up_of self.old) (books_of self.old) self.old.stages duty.number buffer.old (end_reply result) (books_of self.new) self.new.stages buffer.new }
+        ensures kept { SetUpStays self.old self.new }
         ensures unchanged { SameUnless (is_ok result) self.old self.new }
     {
         let number = duty.spend();
@@ -75,8 +75,8 @@ impl<S: Stage, H: ConditionHash> Connector<S, H> {
 
     // Ends the packet that is due first, by R00; none where none is due.
     pub fn tick(&mut self, time: u64, buffer: &mut [u8]) -> Result<Option<Ended>, Refusal>
-        ensures does { Tick-does held (set_up_of self.old) (books_of self.old) self.old.stages time buffer.old (tick_reply result) (books_of self.new) self.new.stages buffer.new }
-        ensures kept { Set-up-stays self.old self.new }
+        ensures does { TickDoes held (set_up_of self.old) (books_of self.old) self.old.stages time buffer.old (tick_reply result) (books_of self.new) self.new.stages buffer.new }
+        ensures kept { SetUpStays self.old self.new }
         ensures unchanged { SameUnless (is_ok result) self.old self.new }
     {
         if buffer.len() < LONGEST_PACKET {

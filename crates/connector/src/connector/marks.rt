@@ -1,8 +1,8 @@
 // Saying that a packet was sent.
 ghost use Rattle.std.specs.Prelude.{◌≡◌, is_ok};
-ghost use Rattle.protocol.specs.Turns.{Sent-does};
+ghost use Rattle.protocol.specs.Turns.{SentDoes};
 ghost use Rattle.connector.specs.Replies.{sent_reply};
-ghost use Rattle.connector.specs.Views.{books_of, set_up_of, Set-up-stays, SameUnless};
+ghost use Rattle.connector.specs.Views.{books_of, set_up_of, SetUpStays, SameUnless};
 
 use super::Connector;
 use crate::duty::SendDuty;
@@ -13,8 +13,8 @@ use stage::interface::Stage;
 impl<S: Stage, H: ConditionHash> Connector<S, H> {
     // Marks the packet of a duty as sent, and touches no other. A refused call spends the duty too.
     pub fn sent(&mut self, duty: SendDuty) -> Result<(), Refusal>
-        ensures does { Sent-does held (set_up_of self.old) (books_of self.old) self.old.stages duty.number (sent_reply result) (books_of self.new) self.new.stages }
-        ensures kept { Set-up-stays self.old self.new }
+        ensures does { SentDoes held (set_up_of self.old) (books_of self.old) self.old.stages duty.number (sent_reply result) (books_of self.new) self.new.stages }
+        ensures kept { SetUpStays self.old self.new }
         ensures unchanged { SameUnless (is_ok result) self.old self.new }
     {
         let number = duty.spend();

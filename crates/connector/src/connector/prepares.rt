@@ -4,12 +4,12 @@ ghost use Rattle.packet.specs.Encoding.{PrepareFits};
 ghost use Rattle.ledger.specs.Books.{next_row, admitted};
 ghost use Rattle.protocol.specs.Messages.{forwarded_bytes, our_bytes};
 ghost use Rattle.protocol.specs.Outcomes.{forwarded};
-ghost use Rattle.protocol.specs.Turns.{ended_as, Prepare-does};
+ghost use Rattle.protocol.specs.Turns.{ended_as, PrepareDoes};
 ghost use Rattle.connector.specs.Replies.{forwarded_reply, prepared_reply};
 ghost use Rattle.packet.specs.Values.{prepare_of};
 ghost use Rattle.protocol.specs.Calls.{by_prepare, room_needed, reservation_for};
 ghost use Rattle.connector.specs.Decisions.{plainly, goes_to, going, decided, Ready};
-ghost use Rattle.connector.specs.Views.{books_of, set_up_of, Set-up-stays, SameUnless};
+ghost use Rattle.connector.specs.Views.{books_of, set_up_of, SetUpStays, SameUnless};
 
 use super::Connector;
 use crate::duty::SendDuty;
@@ -52,8 +52,8 @@ impl<S: Stage, H: ConditionHash> Connector<S, H> {
         bytes: &[u8],
         buffer: &mut [u8],
     ) -> Result<Prepared, Refusal>
-        ensures does { Prepare-does held rule (set_up_of self.old) (books_of self.old) self.old.stages account request time bytes.now buffer.old (prepared_reply result) (books_of self.new) self.new.stages buffer.new }
-        ensures kept { Set-up-stays self.old self.new }
+        ensures does { PrepareDoes held rule (set_up_of self.old) (books_of self.old) self.old.stages account request time bytes.now buffer.old (prepared_reply result) (books_of self.new) self.new.stages buffer.new }
+        ensures kept { SetUpStays self.old self.new }
         ensures unchanged { SameUnless (is_ok result) self.old self.new }
     {
         if buffer.len() < LONGEST_PACKET {
@@ -147,7 +147,7 @@ impl<S: Stage, H: ConditionHash> Connector<S, H> {
         ensures buffer { buffer.new ≡ forwarded_bytes (going (prepare_of prepare.now) onward) ++ drop (length (forwarded_bytes (going (prepare_of prepare.now) onward))) buffer.old }
         ensures books { books_of self.new ≡ admitted (next_row (books_of self.old) (reservation_for account request (prepare_of prepare.now) (goes_to onward) onward.passed)) (books_of self.old) }
         ensures numbers { held self.new.stages ≡ held self.old.stages ++ ((books_of self.old).last + 1) ∷ [] }
-        ensures kept { Set-up-stays self.old self.new }
+        ensures kept { SetUpStays self.old self.new }
     {
         let to = onward.transfer.accounts.outgoing();
         let mut condition = [0; 32];
