@@ -1,6 +1,6 @@
 -- What is kept from call to call, in terms of the books alone.
 use Rattle.std.proofs.Common.{◌≡◌, ℕ, ◌+◌, ◌-◌, ◌<◌, ◌≤◌, Bool, true, false, cond, ◌⊎◌, List, [], ◌∷◌, ◌++◌, length, get_or, ℤ, Some, None, Ok, Option, sym, refl, ap, ◌∙◌, subst, inl, inr, ⊎_elim, arith}
-use Rattle.std.specs.List.{AllByRecursion as All}
+use Rattle.std.specs.List.{AllByRecursion}
 use Rattle.packet.specs.Values.{PrepareValue}
 use Rattle.pending.specs.declared.row.Pending.{Pending}
 use Rattle.pending.specs.Rows.{lookup, as_sent}
@@ -89,7 +89,7 @@ module _ (digest : List ℕ → List ℕ) {St : Type 0} (held : St → List ℕ)
     pub opened : held p ≡ numbers_of b.rows
     pub once : (n : ℕ) → times_ended digest n es + total (numbered n) b.rows ≡ given b.last n
     pub numbers : Numbered es b.last
-    pub origins : All (Origin es) b.rows
+    pub origins : AllByRecursion (Origin es) b.rows
     pub accounts : EachMatches first.accounts bal (λ k. sum_in k b.rows) (λ k. sum_out k b.rows) b.accounts
     pub decisive : AFulfilmentNeedsTheSecretInTime digest s.own es
 
@@ -101,7 +101,7 @@ module _ (digest : List ℕ → List ℕ) {St : Type 0} (held : St → List ℕ)
       ((n : ℕ) → hits n d + total (numbered n) b'.rows + given b.last n ≡ total (numbered n) b.rows + given b'.last n) →
       ((n : ℕ) → Forwarding n e → (n ≡ b.last + 1) × (b'.last ≡ b.last + 1)) →
       b.last ≤ b'.last →
-      All (Origin (e ∷ es)) b'.rows →
+      AllByRecursion (Origin (e ∷ es)) b'.rows →
       EachMatches first.accounts bal' (λ k. sum_in k b'.rows) (λ k. sum_out k b'.rows) b'.accounts →
       ((r : Pending) → d ≡ Some r → DecidedRight digest s.own (time_of b.time e.call) es e r) →
       Kept (e ∷ es) b' p'

@@ -1,6 +1,6 @@
 -- What is kept by each way in which a call turns out.
 use Rattle.std.proofs.Common.{◌≡◌, ℕ, ◌+◌, ◌-◌, ◌^◌, ◌<◌, ◌≤◌, max, Bool, true, false, cond, ◌&&◌, eqb, ltb, leb, ◌⊎◌, List, [], ◌∷◌, ◌++◌, length, get_or, ℤ, pos, ◌+ℤ◌, ◌-ℤ◌, Some, None, Ok, Err, Option, Result, sym, refl, ap, ◌∙◌, subst, inl, inr, ⊎_elim, arith}
-use Rattle.std.specs.List.{AllByRecursion as All}
+use Rattle.std.specs.List.{AllByRecursion}
 use Rattle.std.specs.Str.{bytes_eq}
 use Rattle.std.proofs.lemmas.List.{map_push}
 use Rattle.std.proofs.ByRecursion.{All-weaker, All-push}
@@ -65,7 +65,7 @@ module _ (digest : List ℕ → List ℕ) {St : Type 0} (held : St → List ℕ)
       (λ m. omega (arith, ap (total (numbered m)) rs, ap (λ x. given x m) l))
       (λ m f. absurd (nothing-sent e none m f))
       (omega arith)
-      (subst (All (Origin (e ∷ es))) (sym rs) (All-weaker (Origin es) (Origin (e ∷ es)) (origin-more e es) b.rows k.origins))
+      (subst (AllByRecursion (Origin (e ∷ es))) (sym rs) (All-weaker (Origin es) (Origin (e ∷ es)) (origin-more e es) b.rows k.origins))
       (subst (λ ys. EachMatches first.accounts bal' (λ k. sum_in k ys) (λ k. sum_out k ys) b'.accounts) (sym rs) accounts)
       (λ r q. never r q)
 

@@ -2,7 +2,7 @@
 use Rattle.std.proofs.Common.{◌≡◌, ℕ, zero, suc, ◌+◌, ◌-◌, ◌<◌, ◌≤◌, Bool, true, false, cond, not, ◌&&◌, eqb, ltb, leb, ◌⊎◌, List, [], ◌∷◌, ◌++◌, map, length, get_or, Some, None, Option, sym, refl, ap, ◌∙◌, subst, inl, inr, ⊎_elim, arith}
 use Rattle.std.proofs.lemmas.Bool.{true≢false, eqb-true, eqb-false, eq-eqb, ne_eqb}
 use Rattle.std.proofs.lemmas.Bool.Decides.{nat_tests}
-use Rattle.std.specs.List.{AllByRecursion as All}
+use Rattle.std.specs.List.{AllByRecursion}
 use Rattle.stage.specs.Numbers.{among, none_twice, without}
 use Rattle.stage.proofs.OpenLists.{not_first, without-none}
 use Rattle.pending.specs.declared.row.Pending.{Pending}
@@ -88,17 +88,17 @@ due-found now rs r d e = go (earliest rs) refl e
     go (Some q) t w = pick q (leb q.expiry now) t w
 
 -- what holds of each row
-pub all-dropped : (Q : Pending → Type 0) (n : ℕ) (rs : List Pending) → All Q rs → All Q (dropped n rs)
+pub all-dropped : (Q : Pending → Type 0) (n : ℕ) (rs : List Pending) → AllByRecursion Q rs → AllByRecursion Q (dropped n rs)
 all-dropped Q n [] h = tt
 all-dropped Q n (r ∷ rs) h =
-    elim (eqb r.number n) as (λ b. All Q (cond b rs (r ∷ dropped n rs))) [ true ↦ h.1 | false ↦ (h.0, all-dropped Q n rs h.1) ]
+    elim (eqb r.number n) as (λ b. AllByRecursion Q (cond b rs (r ∷ dropped n rs))) [ true ↦ h.1 | false ↦ (h.0, all-dropped Q n rs h.1) ]
 
-pub all-marked : (Q : Pending → Type 0) → ((r : Pending) → Q r → Q (as_sent r)) → (n : ℕ) (rs : List Pending) → All Q rs → All Q (marked n rs)
+pub all-marked : (Q : Pending → Type 0) → ((r : Pending) → Q r → Q (as_sent r)) → (n : ℕ) (rs : List Pending) → AllByRecursion Q rs → AllByRecursion Q (marked n rs)
 all-marked Q f n [] h = tt
 all-marked Q f n (r ∷ rs) h =
-    elim (eqb r.number n) as (λ b. All Q (cond b (as_sent r ∷ rs) (r ∷ marked n rs))) [ true ↦ (f r h.0, h.1) | false ↦ (h.0, all-marked Q f n rs h.1) ]
+    elim (eqb r.number n) as (λ b. AllByRecursion Q (cond b (as_sent r ∷ rs) (r ∷ marked n rs))) [ true ↦ (f r h.0, h.1) | false ↦ (h.0, all-marked Q f n rs h.1) ]
 
-pub all_found : (Q : Pending → Type 0) (n : ℕ) (rs : List Pending) (r : Pending) → lookup n rs ≡ Some r → All Q rs → Q r
+pub all_found : (Q : Pending → Type 0) (n : ℕ) (rs : List Pending) (r : Pending) → lookup n rs ≡ Some r → AllByRecursion Q rs → Q r
 all_found Q n [] r e h = let z : ◌≡◌ {A = ℕ} 0 1 = cc in absurd (omega arith)
 all_found Q n (x ∷ rs) r e h =
     elim (eqb x.number n)
