@@ -31,7 +31,7 @@ impl<S: Stage, H: ConditionHash> Connector<S, H> {
     // How an answer ends a row: whether it comes too late is judged first, and then what it brings.
     fn ending(&self, row: &Pending, answer: Answer<'_>) -> Ending
         requires { WellFormed (answer_of answer) }
-        ensures { (bytes : List ℕ) → ending_of bytes result ≡ ending_by digest_of (books_of self.now).time bytes row.now (answered_by answer.entry) }
+        ensures { (bytes : List ℕ) → ending_of bytes result ≡ ending_by H.digest_of (books_of self.now).time bytes row.now (answered_by answer.entry) }
     {
         if self.ledger.time() >= row.expiry {
             return Ending::Ours(RejectCode::TransferTimedOut);
@@ -54,7 +54,7 @@ impl<S: Stage, H: ConditionHash> Connector<S, H> {
         bytes: &[u8],
         buffer: &mut [u8],
     ) -> Result<Ended, Refusal>
-        ensures does { AnswerDoes held digest_of (set_up_of self.old) (books_of self.old) self.old.stages account number time bytes.now buffer.old (end_reply result) (books_of self.new) self.new.stages buffer.new }
+        ensures does { AnswerDoes S.held H.digest_of (set_up_of self.old) (books_of self.old) self.old.stages account number time bytes.now buffer.old (end_reply result) (books_of self.new) self.new.stages buffer.new }
         ensures kept { SetUpStays self.old self.new }
         ensures unchanged { SameUnless (is_ok result) self.old self.new }
     {
@@ -90,8 +90,8 @@ impl<S: Stage, H: ConditionHash> Connector<S, H> {
         ensures value { result ≡ ended_as row.now.sender row.now.request (ending_bytes (set_up_of self.old).own (ending_of bytes.now ending)) }
         ensures buffer { buffer.new ≡ ending_bytes (set_up_of self.old).own (ending_of bytes.now ending) ++ drop (length (ending_bytes (set_up_of self.old).own (ending_of bytes.now ending))) buffer.old }
         ensures books { books_of self.new ≡ closed (is_paid (ending_of bytes.now ending)) row.now (books_of self.old) }
-        ensures numbers { held self.new.stages ≡ without (held self.old.stages) row.now.number }
-        ensures closed { among (held self.old.stages) row.now.number ≡ false → self.new.stages ≡ self.old.stages }
+        ensures numbers { S.held self.new.stages ≡ without (S.held self.old.stages) row.now.number }
+        ensures closed { among (S.held self.old.stages) row.now.number ≡ false → self.new.stages ≡ self.old.stages }
         ensures kept { SetUpStays self.old self.new }
     {
         match ending {

@@ -27,8 +27,8 @@ impl<S: Stage, H: ConditionHash> Connector<S, H> {
     pub(crate) fn end(&mut self, row: &Pending, fulfilled: bool)
         requires { lookup row.now.number (books_of self.old).rows ≡ Some row.now }
         ensures books { books_of self.new ≡ closed fulfilled row.now (books_of self.old) }
-        ensures numbers { held self.new.stages ≡ without (held self.old.stages) row.now.number }
-        ensures closed { among (held self.old.stages) row.now.number ≡ false → self.new.stages ≡ self.old.stages }
+        ensures numbers { S.held self.new.stages ≡ without (S.held self.old.stages) row.now.number }
+        ensures closed { among (S.held self.old.stages) row.now.number ≡ false → self.new.stages ≡ self.old.stages }
         ensures kept { SetUpStays self.old self.new }
     {
         self.ledger.end(row.number, fulfilled);
@@ -55,7 +55,7 @@ impl<S: Stage, H: ConditionHash> Connector<S, H> {
 
     // Ends the packet of a duty that could not be sent, by T01. A refused call spends the duty too.
     pub fn unsent(&mut self, duty: SendDuty, buffer: &mut [u8]) -> Result<Ended, Refusal>
-        ensures does { UnsentDoes held (set_up_of self.old) (books_of self.old) self.old.stages duty.number buffer.old (end_reply result) (books_of self.new) self.new.stages buffer.new }
+        ensures does { UnsentDoes S.held (set_up_of self.old) (books_of self.old) self.old.stages duty.number buffer.old (end_reply result) (books_of self.new) self.new.stages buffer.new }
         ensures kept { SetUpStays self.old self.new }
         ensures unchanged { SameUnless (is_ok result) self.old self.new }
     {
@@ -75,7 +75,7 @@ impl<S: Stage, H: ConditionHash> Connector<S, H> {
 
     // Ends the packet that is due first, by R00; none where none is due.
     pub fn tick(&mut self, time: u64, buffer: &mut [u8]) -> Result<Option<Ended>, Refusal>
-        ensures does { TickDoes held (set_up_of self.old) (books_of self.old) self.old.stages time buffer.old (tick_reply result) (books_of self.new) self.new.stages buffer.new }
+        ensures does { TickDoes S.held (set_up_of self.old) (books_of self.old) self.old.stages time buffer.old (tick_reply result) (books_of self.new) self.new.stages buffer.new }
         ensures kept { SetUpStays self.old self.new }
         ensures unchanged { SameUnless (is_ok result) self.old self.new }
     {

@@ -19,7 +19,7 @@ impl<S: Stage, H: ConditionHash> Connector<S, H> {
         stages: S,
         hash: H,
     ) -> Result<Connector<S, H>, Unmade<S, H>>
-        ensures { Made held set_up.entry stages hash result }
+        ensures { Made S.held set_up.entry stages hash result }
     {
         let why = NotMade::Refused;
         let Some(ledger) = Ledger::new(set_up.accounts) else {

@@ -13,7 +13,7 @@ use stage::interface::Stage;
 impl<S: Stage, H: ConditionHash> Connector<S, H> {
     // Marks the packet of a duty as sent, and touches no other. A refused call spends the duty too.
     pub fn sent(&mut self, duty: SendDuty) -> Result<(), Refusal>
-        ensures does { SentDoes held (set_up_of self.old) (books_of self.old) self.old.stages duty.number (sent_reply result) (books_of self.new) self.new.stages }
+        ensures does { SentDoes S.held (set_up_of self.old) (books_of self.old) self.old.stages duty.number (sent_reply result) (books_of self.new) self.new.stages }
         ensures kept { SetUpStays self.old self.new }
         ensures unchanged { SameUnless (is_ok result) self.old self.new }
     {

@@ -52,7 +52,7 @@ impl<S: Stage, H: ConditionHash> Connector<S, H> {
         bytes: &[u8],
         buffer: &mut [u8],
     ) -> Result<Prepared, Refusal>
-        ensures does { PrepareDoes held rule (set_up_of self.old) (books_of self.old) self.old.stages account request time bytes.now buffer.old (prepared_reply result) (books_of self.new) self.new.stages buffer.new }
+        ensures does { PrepareDoes S.held S.rule (set_up_of self.old) (books_of self.old) self.old.stages account request time bytes.now buffer.old (prepared_reply result) (books_of self.new) self.new.stages buffer.new }
         ensures kept { SetUpStays self.old self.new }
         ensures unchanged { SameUnless (is_ok result) self.old self.new }
     {
@@ -91,8 +91,8 @@ impl<S: Stage, H: ConditionHash> Connector<S, H> {
 
     // Whether a Prepare goes on, and in which form, or the first reason that it does not.
     fn decide(&self, account: u8, prepare: &Prepare<'_>) -> Result<Onward, Rejected>
-        ensures value { (q : ℕ) → decided (books_of self.now) account q (prepare_of prepare.now) result ≡ by_prepare (rule self.now.stages) (set_up_of self.now) (books_of self.now) account q (books_of self.now).time (Ok (prepare_of prepare.now)) }
-        ensures ready { Ready (rule self.now.stages) (books_of self.now) account (prepare_of prepare.now) result }
+        ensures value { (q : ℕ) → decided (books_of self.now) account q (prepare_of prepare.now) result ≡ by_prepare (S.rule self.now.stages) (set_up_of self.now) (books_of self.now) account q (books_of self.now).time (Ok (prepare_of prepare.now)) }
+        ensures ready { Ready (S.rule self.now.stages) (books_of self.now) account (prepare_of prepare.now) result }
     {
         let Some(number) = self.ledger.next_number() else {
             return Err(plain(RejectCode::InternalError));
@@ -140,13 +140,13 @@ impl<S: Stage, H: ConditionHash> Connector<S, H> {
         onward: Onward,
         buffer: &mut [u8],
     ) -> Forwarded
-        requires ready { Ready (rule self.old.stages) (books_of self.old) account (prepare_of prepare.now) (Ok onward) }
+        requires ready { Ready (S.rule self.old.stages) (books_of self.old) account (prepare_of prepare.now) (Ok onward) }
         requires fits { PrepareFits (prepare_of prepare.now) }
         requires room { room_needed ≤ length buffer.old }
         ensures value { forwarded_reply result ≡ forwarded ((books_of self.old).last + 1) (goes_to onward) (length (forwarded_bytes (going (prepare_of prepare.now) onward))) ((books_of self.old).last + 1) }
         ensures buffer { buffer.new ≡ forwarded_bytes (going (prepare_of prepare.now) onward) ++ drop (length (forwarded_bytes (going (prepare_of prepare.now) onward))) buffer.old }
         ensures books { books_of self.new ≡ admitted (next_row (books_of self.old) (reservation_for account request (prepare_of prepare.now) (goes_to onward) onward.passed)) (books_of self.old) }
-        ensures numbers { held self.new.stages ≡ held self.old.stages ++ ((books_of self.old).last + 1) ∷ [] }
+        ensures numbers { S.held self.new.stages ≡ S.held self.old.stages ++ ((books_of self.old).last + 1) ∷ [] }
         ensures kept { SetUpStays self.old self.new }
     {
         let to = onward.transfer.accounts.outgoing();
