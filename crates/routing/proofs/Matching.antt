@@ -1,9 +1,7 @@
 -- What it says that a destination begins with a prefix. Assumes nothing.
-use Rattle.std.proofs.Common.{◌≡◌, ℕ, Bool, List, ◌++◌, length, take, drop, Decides, sym, refl, ap, ◌∙◌}
-use Rattle.std.specs.Cmp.Lexicographic.{Matches}
-use Rattle.std.proofs.lemmas.Slice.Eq.{slice_eq-Decides, bytes_eq-Decides}
+use Rattle.std.proofs.Common.{◌≡◌, ℕ, List, ◌++◌, length, take, drop, Decides, sym, refl, ap, ◌∙◌}
+use Rattle.std.proofs.lemmas.Slice.Eq.{bytes_eq-Decides}
 use Rattle.std.proofs.lemmas.List.{take-append-drop, take_at}
-use Rattle.std.proofs.lemmas.Bool.Decides.{same_from_decides, Decides-eqb}
 use Rattle.routing.specs.Routes.{begins, Begins}
 
 -- the bytes of the prefix stand in front
@@ -18,9 +16,3 @@ begins-decides d p =
       λ h. (drop (length p) d, sym (take-append-drop (length p) d) ∙ ap (λ l. l ++ drop (length p) d) (sym (same.0 h))),
       λ matches. same.1 (front_bytes d p matches),
     )
-
--- what a slice's `starts_with` answers, of a part that is the prefix
-pub starts-begins : (d p q : List ℕ) (r : Bool) → Matches (λ (a b : ℕ) (t : Bool). Decides t (a ≡ b)) q (take (length q) d) r → q ≡ p → r ≡ begins d p
-unfolding begins
-starts-begins d p q r m e =
-    same_from_decides r (begins d q) (slice_eq-Decides Decides-eqb q (take (length q) d) r m) (bytes_eq-Decides q (take (length q) d)) ∙ ap (begins d) e
