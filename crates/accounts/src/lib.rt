@@ -1,4 +1,6 @@
 // The accounts of a payment connector. Every account keeps its ceiling and its floor, whatever is called.
+#![tactic(auto)]
+
 pub mod account;
 pub mod figures;
 pub mod hold;

@@ -1,13 +1,11 @@
 -- When two ledgers are the same value, and what the answers of the parts say of the whole.
-use Rattle.std.proofs.Common.{◌≡◌, ℕ, ◌+◌, Bool, true, false, cond, not, List, [], ◌∷◌, ◌++◌, length, Some, None, Option, sym, refl, ap, ◌∙◌, subst, arith}
+use Rattle.std.proofs.Common.{◌≡◌, ℕ, ◌+◌, Bool, true, false, List, [], ◌∷◌, ◌++◌, length, Some, None, sym, refl, ap, ◌∙◌, arith}
 use mathlib.Core.Bool.{Bool-set}
 use mathlib.Core.HLevel.{is_prop→PathP}
 use native.Mathlib.Nat.{ℕ_set}
 use Rattle.std.specs.Bool.{then_some}
 use Rattle.pending.specs.declared.row.Pending.{Pending}
-use Rattle.pending.specs.declared.table.PendingTable.{PendingTable}
 use Rattle.pending.specs.Tables as pendings
-use Rattle.accounts.specs.declared.table.Accounts.{Accounts}
 use Rattle.accounts.specs.declared.figures.Figures.{Figures}
 use Rattle.accounts.specs.Figures.{held}
 use Rattle.ledger.specs.declared.ledger.Ledger.{Ledger}

@@ -1,16 +1,16 @@
 -- Each change keeps the books sound.
-use Rattle.std.proofs.Common.{◌≡◌, ℕ, ◌+◌, ◌-◌, ◌<◌, ◌≤◌, Bool, true, false, cond, not, ◌&&◌, eqb, ltb, leb, List, [], ◌∷◌, ◌++◌, length, get_or, ℤ, Some, None, Option, sym, refl, ap, ◌∙◌, subst, arith}
+use Rattle.std.proofs.Common.{◌≡◌, ℕ, ◌+◌, ◌≤◌, Bool, true, not, ◌&&◌, eqb, List, [], ◌∷◌, ◌++◌, length, get_or, ℤ, Some, sym, refl, ap, ◌∙◌, subst, arith}
 use Rattle.std.proofs.lemmas.Bool.Decides.{nat_tests}
-use Rattle.std.proofs.lemmas.Bool.{and_parts, and_from, ltb-true, lt-ltb, le-leb, ne_eqb}
+use Rattle.std.proofs.lemmas.Bool.{and_parts, and_from, lt-ltb, le-leb, ne_eqb}
 use Rattle.pending.specs.declared.row.Pending.{Pending}
-use Rattle.pending.specs.Rows.{lookup, dropped, marked}
+use Rattle.pending.specs.Rows.{lookup, dropped}
 use Rattle.accounts.specs.declared.figures.Figures.{Figures}
 use Rattle.accounts.specs.declared.limits.Limits.{Limits}
 use Rattle.accounts.specs.Figures.{unset, with_balance, can_hold_in, can_hold_out, can_hold, can_end, is_set_up, takes_in, takes_out}
 use Rattle.accounts.specs.SetUps.{new_accounts}
-use Rattle.ledger.specs.Sums.{sum_in, sum_out, in_at, out_at, every, accounts_fit, is_given, rise}
+use Rattle.ledger.specs.Sums.{in_at, out_at, every, accounts_fit, is_given}
 use Rattle.ledger.specs.Books.{Books, figures_at, new_books, advanced, admitted, hold_of, marked_at, closed, rebalanced, Sound}
-use Rattle.ledger.proofs.RowLaws.{total-push, total-dropped, total-marked, every-push, every-dropped, every-marked, every_one, every-so, rise-push, rise-dropped, rise-marked, Placed, placed, in-own, out-own}
+use Rattle.ledger.proofs.RowLaws.{total-push, total-dropped, total-marked, every-push, every-dropped, every-marked, every_one, every-so, rise-push, rise-dropped, rise-marked, placed, in-own, out-own}
 use Rattle.ledger.proofs.AccountLaws.{in_held, out-held, in-ended, out-ended, length-held, length-ended, length-adjust, untouched}
 
 new-zeros : (limits : List Limits) (a : ℕ) → ((get_or (new_accounts limits) a unset).held_in ≡ 0) × ((get_or (new_accounts limits) a unset).held_out ≡ 0)

@@ -1,8 +1,8 @@
 -- The row that ends first: it is one of the rows, and none ends before it.
-use Rattle.std.proofs.Common.{◌≡◌, ℕ, zero, suc, ◌+◌, ◌<◌, ◌≤◌, Bool, true, false, cond, eqb, leb, ◌⊎◌, List, [], ◌∷◌, length, get_or, Some, None, Option, sym, refl, ap, ◌∙◌, subst, inl, inr, ⊎_elim, arith}
+use Rattle.std.proofs.Common.{◌≡◌, ℕ, zero, suc, ◌<◌, ◌≤◌, true, false, cond, List, [], ◌∷◌, length, get_or, Some, None, refl, ap, ◌∙◌, subst, inl, inr, ⊎_elim, arith}
 use Rattle.std.proofs.lemmas.Bool.Decides.{nat_tests}
 use Rattle.pending.specs.declared.row.Pending.{Pending}
-use Rattle.pending.specs.Rows.{vacant, ends_before, earliest_from, earliest, if_reached, due, NotAfter, FirstExpired}
+use Rattle.pending.specs.Rows.{vacant, ends_before, earliest_from, earliest, if_reached, NotAfter, FirstExpired}
 use Rattle.pending.specs.Tables.{EarliestAt, DueAt}
 
 same-time : (p : Pending) → NotAfter p p

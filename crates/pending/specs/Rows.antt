@@ -1,5 +1,5 @@
 -- The rows of what is pending, as a list. Assumes nothing.
-use Rattle.std.specs.Prelude.{◌≡◌, ℕ, ◌<◌, ◌≤◌, Bool, true, false, cond, ◌&&◌, ◌||◌, ◌⊎◌, List, [], ◌∷◌, length, get_or, is_some, Some, None, Option, ◌==◌, nat_le, nat_lt, slice_index_or}
+use Rattle.std.specs.Prelude.{◌≡◌, ℕ, ◌<◌, ◌≤◌, Bool, true, false, cond, ◌&&◌, ◌||◌, ◌⊎◌, List, [], ◌∷◌, length, is_some, Some, None, Option, ◌==◌, nat_le, nat_lt, slice_index_or}
 use Rattle.pending.specs.declared.row.Pending.{Pending}
 
 -- what stands where there is no row
@@ -66,5 +66,5 @@ NotAfter p q = (p.expiry < q.expiry) ⊎ ((p.expiry ≡ q.expiry) × (p.number �
 
 abbrev pub FirstExpired : List Pending → ℕ → Option ℕ → Type 0
 FirstExpired rs time (Some i) =
-    (i < length rs) × ((get_or rs i vacant).expiry ≤ time) × ((k : ℕ) → k < length rs → NotAfter (slice_index_or rs i vacant) (slice_index_or rs k vacant))
-FirstExpired rs time None = (k : ℕ) → k < length rs → time < (get_or rs k vacant).expiry
+    (i < length rs) × ((slice_index_or rs i vacant).expiry ≤ time) × ((k : ℕ) → k < length rs → NotAfter (slice_index_or rs i vacant) (slice_index_or rs k vacant))
+FirstExpired rs time None = (k : ℕ) → k < length rs → time < (slice_index_or rs k vacant).expiry

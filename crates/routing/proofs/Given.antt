@@ -1,7 +1,7 @@
 -- One step of each check over the routes that are given, and of the copy of them. Assumes nothing.
 use Rattle.std.proofs.Common.{◌≡◌, ℕ, ◌+◌, ◌-◌, ◌<◌, ◌≤◌, Bool, not, ◌&&◌, ◌||◌, List, [], ◌∷◌, ◌++◌, length, get_or, take, drop, sym, ap, ◌∙◌, subst, arith}
 use Rattle.std.specs.Str.{bytes_eq}
-use Rattle.std.specs.List.{AllByRecursion as All}
+use Rattle.std.specs.List.{AllByRecursion}
 use Rattle.std.proofs.ByRecursion.{All-get_or}
 use Rattle.std.proofs.lemmas.List.{at_drop_more, take_rest, map_push, map_more, get_or-map, length-map}
 use Rattle.routing.specs.declared.entry.Entry.{Entry}
@@ -25,7 +25,7 @@ twice-next rs i d t l e =
     at_drop_more (λ xs. no_prefix_twice (given_list xs)) rs i d l ∙ ap (λ x. not x && no_prefix_twice (given_list (drop (i + 1) rs))) (sym behind)
 
 -- a route of a list of short ones is short
-pub short-at : (rs : List Route) (i : ℕ) (d : Route) → i < length rs → All (λ (r : RouteValue). length r.prefix ≤ 64) (given_list rs) → length (get_or rs i d).prefix.now ≤ 64
+pub short-at : (rs : List Route) (i : ℕ) (d : Route) → i < length rs → AllByRecursion (λ (r : RouteValue). length r.prefix ≤ 64) (given_list rs) → length (get_or rs i d).prefix.now ≤ 64
 short-at rs i d l short =
     subst (λ (r : RouteValue). length r.prefix ≤ 64) (get_or-map given_route rs i d (given_route d) l)
     (All-get_or (λ (r : RouteValue). length r.prefix ≤ 64) (given_list rs) i (given_route d) (omega (arith, length-map rs given_route)) short)

@@ -1,9 +1,8 @@
 -- What it says that a destination begins with a prefix. Assumes nothing.
-use Rattle.std.proofs.Common.{◌≡◌, ℕ, Bool, List, ◌++◌, length, take, drop, Decides, sym, refl, ap, ◌∙◌}
-use Rattle.std.specs.Cmp.Lexicographic.{Matches}
-use Rattle.std.proofs.lemmas.Slice.Eq.{slice_eq-Decides, bytes_eq-Decides}
+use Rattle.std.proofs.Common.{◌≡◌, ℕ, Bool, nat_eq, List, ◌++◌, length, take, drop, Decides, sym, refl, ap, ◌∙◌}
+use Rattle.std.specs.List.{starts_with}
+use Rattle.std.proofs.lemmas.Slice.Eq.{bytes_eq-Decides}
 use Rattle.std.proofs.lemmas.List.{take-append-drop, take_at}
-use Rattle.std.proofs.lemmas.Bool.Decides.{same_from_decides, Decides-eqb}
 use Rattle.routing.specs.Routes.{begins, Begins}
 
 -- the bytes of the prefix stand in front
@@ -20,7 +19,6 @@ begins-decides d p =
     )
 
 -- what a slice's `starts_with` answers, of a part that is the prefix
-pub starts-begins : (d p q : List ℕ) (r : Bool) → Matches (λ (a b : ℕ) (t : Bool). Decides t (a ≡ b)) q (take (length q) d) r → q ≡ p → r ≡ begins d p
+pub starts-begins : (d p q : List ℕ) (r : Bool) → r ≡ starts_with nat_eq d q → q ≡ p → r ≡ begins d p
 unfolding begins
-starts-begins d p q r m e =
-    same_from_decides r (begins d q) (slice_eq-Decides Decides-eqb q (take (length q) d) r m) (bytes_eq-Decides q (take (length q) d)) ∙ ap (begins d) e
+starts-begins d p q r answer same = answer ∙ ap (begins d) same

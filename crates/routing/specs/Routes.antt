@@ -1,7 +1,7 @@
 -- Routes as plain values: which of them make a table, and which one a destination takes. Assumes nothing.
 use Rattle.std.specs.Prelude.{◌≡◌, ℕ, ◌<◌, ◌≤◌, Bool, true, false, cond, not, ◌&&◌, ◌||◌, List, [], ◌∷◌, ◌++◌, length, take, Some, None, Option, nat_le, nat_lt}
 use Rattle.std.specs.Option.{option_map}
-use Rattle.std.specs.List.{ContainsAt as Has, AllByRecursion as All}
+use Rattle.std.specs.List.{ContainsAt, AllByRecursion}
 use Rattle.std.specs.Str.{bytes_eq}
 use Rattle.address.specs.Addresses.{is_prefix}
 
@@ -65,19 +65,19 @@ route_for rs destination = account_of (best_of destination None rs)
 
 -- the destination begins with the prefix of this route of the list, and with no longer one of it
 pub record IsLongest (rs : List RouteValue) (destination : List ℕ) (r : RouteValue) : Type 0 where
-  pub listed : Has rs r
+  pub listed : ContainsAt rs r
   pub matches : Begins destination r.prefix
-  pub most : All (λ q. Begins destination q.prefix → length q.prefix ≤ length r.prefix) rs
+  pub most : AllByRecursion (λ q. Begins destination q.prefix → length q.prefix ≤ length r.prefix) rs
 
 -- an answer by the longest match, and none where nothing matches
 abbrev pub Longest : List RouteValue → List ℕ → Option ℕ → Type 0
 Longest rs destination (Some a) = (r : RouteValue) × IsLongest rs destination r × (r.account ≡ a)
-Longest rs destination None = All (λ q. Begins destination q.prefix → ⊥) rs
+Longest rs destination None = AllByRecursion (λ q. Begins destination q.prefix → ⊥) rs
 
 -- two routes of the list that match equally far are one: so the longest match is the only one of its length
 abbrev pub OneOfALength : List RouteValue → List ℕ → Type 0
 OneOfALength rs destination =
-    (q r : RouteValue) → Has rs q → Has rs r → Begins destination q.prefix → Begins destination r.prefix
+    (q r : RouteValue) → ContainsAt rs q → ContainsAt rs r → Begins destination q.prefix → Begins destination r.prefix
     → length q.prefix ≡ length r.prefix → q ≡ r
 
 -- an answer is an account that is set up

@@ -137,7 +137,8 @@ impl PendingTable {
 
 // Moves the rows behind a place one down.
 fn close_gap(rows: &mut [Pending], place: usize, count: usize)
-    requires { (place < count) × (count ≤ length rows.old) }
+    requires in_use { place < count }
+    requires there { count ≤ length rows.old }
     ensures { take (count - 1) rows.new ≡ remove (take count rows.old) place }
 {
     for i in place + 1..count {

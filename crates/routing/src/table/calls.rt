@@ -1,6 +1,6 @@
 // How a table is made, and what is looked up in it.
 ghost use Rattle.std.specs.Prelude.{◌≡◌, ◌≤◌, length, IfOk, None};
-ghost use Rattle.std.specs.List.{AllByRecursion as All};
+ghost use Rattle.std.specs.List.{AllByRecursion};
 ghost use Rattle.routing.specs.Entries.{given_list, route_list, best_route};
 ghost use Rattle.routing.specs.Routes.{best_of, route_for, Longest, OneOfALength, Known};
 ghost use Rattle.routing.specs.Tables.{listed, RoutesMade};
@@ -14,7 +14,7 @@ use std::alloc::{AllocError, Global};
 
 // An entry for each route, in their order.
 fn copied(heap: Global, routes: &[Route<'_>]) -> Result<Vec<Entry>, AllocError>
-    requires { All (λ r. length r.prefix ≤ 64) (given_list routes.now) }
+    requires { AllByRecursion (λ r. length r.prefix ≤ 64) (given_list routes.now) }
     ensures { IfOk result (λ v. route_list v.items ≡ given_list routes.now) }
 {
     let mut entries = Vec::with_capacity(heap, routes.len())?;

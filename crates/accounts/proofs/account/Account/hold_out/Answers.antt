@@ -12,4 +12,5 @@ pub overflow_add-result : goal.overflow_add-result
 overflow_add-result c = record { fits = omega (arith, ints) }
 
 pub invariant_of-result : goal.invariant_of-result
-invariant_of-result c = (omega (arith, ints), (omega (arith, ints), (c.args.self.high, (c.args.self.low, tt))))
+invariant_of-result c =
+    record { top = omega (arith, ints); bottom = omega (arith, ints); high = c.args.self.high; low = c.args.self.low }

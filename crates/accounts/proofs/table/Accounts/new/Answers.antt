@@ -10,7 +10,7 @@ use Rattle.accounts.proofs.table.Accounts.new.Goals as goal
 pub returns-in_err-new : goal.returns-in_err-new
 returns-in_err-new c =
     let not-fit = none-when _ _ c.in_err-new.ensures in
-    ap table_shown c.from-residual.ensures
+    ap table_shown c.from_residual.ensures
     ∙ when_false _ _ (fits_not c.args.limits.now c.loop-i.i c.loop-i-test.true c.loop-i.invariant.2 not-fit)
 
 pub loop-i-preserved : goal.loop-i-preserved
@@ -28,7 +28,12 @@ invariant_of-result c =
     let ls = c.args.limits.now in
     let written = rows_all c.loop-i.rows ls c.loop-i.i c.loop-i.auto.i-end c.loop-i-test.false c.loop-i.invariant.0 in
     let fits = fits_all ls c.loop-i.i c.loop-i-test.false c.loop-i.invariant.2 in
-    (omega arith, (omega arith, (c.loop-i.invariant.1, (λ k. subst (λ xs. Keeps (get_or xs k unset)) (sym written) (all_keep ls fits k), tt))))
+    record {
+      few = omega arith;
+      some = omega arith;
+      whole = c.loop-i.invariant.1;
+      limits = λ k. subst (λ xs. Keeps (get_or xs k unset)) (sym written) (all_keep ls fits k);
+    }
 
 pub returns : goal.returns
 returns c =

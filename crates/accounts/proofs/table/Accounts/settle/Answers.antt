@@ -14,8 +14,8 @@ returns-in_err-after c =
     let way = way_number c.args.way in
     let refused = ap (can_settle way c.args.amount) (sym c.at.ensures) ∙ none-when _ _ c.in_err-after.ensures in
     record {
-      answer = c.from-residual.ensures ∙ when_false _ _ (and_right _ _ refused);
-      figures = sym (cond-false _ _ _ (ap is_some c.from-residual.ensures));
+      answer = c.from_residual.ensures ∙ when_false _ _ (and_right _ _ refused);
+      figures = sym (cond-false _ _ _ (ap is_some c.from_residual.ensures));
       unchanged = λ _. refl;
     }
 

@@ -1,4 +1,4 @@
-use Rattle.std.proofs.Common.{◌≡◌, ℕ, Bool, true, false, List, Some, sym, refl, ap, ◌∙◌, subst}
+use Rattle.std.proofs.Common.{◌≡◌, ℕ, Bool, true, List, Some, sym, ap, ◌∙◌, subst}
 use Rattle.std.proofs.lemmas.Bool.{true≢false}
 use Rattle.accounts.specs.Figures.{can_end, ended}
 use Rattle.accounts.specs.declared.figures.Figures.{Figures}
@@ -38,11 +38,12 @@ ended_so l n paid r h ps xs e is p x =
 pub invariant_of-self-2 : goal.invariant_of-self-2
 invariant_of-self-2 c =
     let l = c.args.self.now in
-    let r = c.in_ok-row.row in (
-      subst Sound (sym (ended_so l c.args.number c.args.fulfilled r c.hold_of.result _ _ c.in_ok-row.ensures c.hold_of.ensures c.remove.ensures.rows c.if-not-end.ensures.figures))
-          (sound-closed c.args.fulfilled r (view l) (found-again (view l) c.args.number r c.in_ok-row.ensures) l.sound),
-      tt,
-    )
+    let r = c.in_ok-row.row in
+    record {
+      sound =
+          subst Sound (sym (ended_so l c.args.number c.args.fulfilled r c.hold_of.result _ _ c.in_ok-row.ensures c.hold_of.ensures c.remove.ensures.rows c.if-not-end.ensures.figures))
+          (sound-closed c.args.fulfilled r (view l) (found-again (view l) c.args.number r c.in_ok-row.ensures) l.sound);
+    }
 
 pub returns : goal.returns
 returns c =

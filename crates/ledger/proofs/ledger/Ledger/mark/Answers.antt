@@ -1,4 +1,4 @@
-use Rattle.std.proofs.Common.{◌≡◌, sym, refl, subst}
+use Rattle.std.proofs.Common.{sym, refl, subst}
 use Rattle.ledger.specs.Books.{Sound}
 use Rattle.ledger.specs.Views.{view}
 use Rattle.ledger.proofs.Same.{same_books, same-by-pending}
@@ -8,7 +8,7 @@ use Rattle.ledger.proofs.ledger.Ledger.mark.Goals as goal
 pub invariant_of-self : goal.invariant_of-self
 invariant_of-self c =
     let l = c.args.self.now in
-    (subst Sound (sym (same_books l.time l.last _ _ _ _ c.mark.ensures.rows refl)) (sound-marked c.args.number (view l) l.sound), tt)
+    record { sound = subst Sound (sym (same_books l.time l.last _ _ _ _ c.mark.ensures.rows refl)) (sound-marked c.args.number (view l) l.sound) }
 
 pub returns : goal.returns
 returns c =

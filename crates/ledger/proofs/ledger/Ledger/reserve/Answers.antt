@@ -44,11 +44,12 @@ invariant_of-self-2 c =
     let l = c.args.self.now in
     let v = c.args.reservation in
     let next = told-some (has_number (view l)) (l.last + 1) c.in_ok-number.number c.in_ok-number.ensures in
-    let held = c.if-not-hold.ensures in (
-      subst Sound (sym (by-reserve (view l) v c.in_ok-number.number _ _ next.1 (rows_more l v c.in_ok-number.number c.add.result c.row.result _ c.if-is_full.ensures c.row.ensures c.add.ensures.value c.add.ensures.rows) held.figures))
-          (sound-admitted (next_row (view l) v) (view l) refl (fits-row (figures_list l.accounts) (next_row (view l) v) (sym held.answer)) l.sound),
-      tt,
-    )
+    let held = c.if-not-hold.ensures in
+    record {
+      sound =
+          subst Sound (sym (by-reserve (view l) v c.in_ok-number.number _ _ next.1 (rows_more l v c.in_ok-number.number c.add.result c.row.result _ c.if-is_full.ensures c.row.ensures c.add.ensures.value c.add.ensures.rows) held.figures))
+          (sound-admitted (next_row (view l) v) (view l) refl (fits-row (figures_list l.accounts) (next_row (view l) v) (sym held.answer)) l.sound);
+    }
 
 pub returns : goal.returns
 returns c =

@@ -1,18 +1,17 @@
-use Rattle.std.proofs.Common.{◌≡◌, ℕ, Bool, true, false, cond, ◌&&◌, eqb, leb, List, get_or, ℤ, is_some, is_ok, Some, None, Ok, Err, Option, Result, sym, refl, ap, ◌∙◌, subst, arith}
-use Rattle.std.proofs.lemmas.Bool.{cases_Bool, eqb-true}
-use Rattle.std.proofs.lemmas.Bool.Decides.{nat_tests}
+use Rattle.std.proofs.Common.{◌≡◌, ℕ, Bool, true, false, cond, ◌&&◌, eqb, leb, List, ℤ, is_some, is_ok, Some, None, Ok, Err, Option, Result, sym, refl, ap, ◌∙◌, subst, arith}
+use Rattle.std.proofs.lemmas.Bool.{eqb-true}
 use Rattle.std.specs.Bool.{then_some}
 use Rattle.std.specs.Option.{ok_or}
 use Rattle.accounts.specs.declared.way.Way.{Way}
 use Rattle.accounts.specs.declared.way.Way.TheVariants.{TheyPaid, WePaid}
 use Rattle.accounts.specs.declared.figures.Figures.{Figures}
-use Rattle.accounts.specs.Figures.{unset, adjust, with_balance, is_set_up, can_settle, can_settle_at, settled_balance, settled}
+use Rattle.accounts.specs.Figures.{adjust, is_set_up, can_settle, can_settle_at, settled_balance, settled}
 use Rattle.accounts.specs.Views.{figures_list}
 use Rattle.accounts.specs.Ways.{way_number, way_of}
 use Rattle.ledger.specs.declared.ledger.Ledger.{Ledger}
 use Rattle.ledger.specs.declared.refusal.NotSettled.{NotSettled}
 use Rattle.ledger.specs.declared.refusal.NotSettled.TheVariants.{LimitWouldBreak, UnknownWay, NoAccount}
-use Rattle.ledger.specs.Books.{Books, figures_at, rebalanced}
+use Rattle.ledger.specs.Books.{Books, figures_at}
 use Rattle.ledger.specs.Settling.{settlement, settled_books}
 use Rattle.ledger.specs.Views.{view, SameUnless}
 use Rattle.ledger.proofs.Same.{same-ledger, same_books}

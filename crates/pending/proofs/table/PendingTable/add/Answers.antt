@@ -19,7 +19,7 @@ pub invariant_of-self : goal.invariant_of-self
 invariant_of-self c =
     let t = c.args.self.now in
     let free = room t c.if-is_full.ensures in
-    (omega arith, (length-set t.places t.len c.args.row ∙ t.whole, tt))
+    record { few = omega arith; whole = length-set t.places t.len c.args.row ∙ t.whole }
 
 pub returns : goal.returns
 returns c =

@@ -1,4 +1,4 @@
-use Rattle.std.proofs.Common.{◌≡◌, cond, get_or, Some, None, sym, ap, ◌∙◌, arith}
+use Rattle.std.proofs.Common.{cond, get_or, Some, None, sym, ap, ◌∙◌, arith}
 use Rattle.std.proofs.lemmas.List.{get_or-take}
 use Rattle.std.proofs.lemmas.Bool.{lt-ltb}
 use Rattle.pending.specs.Rows.{vacant}

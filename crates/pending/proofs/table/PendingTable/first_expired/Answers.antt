@@ -1,11 +1,11 @@
-use Rattle.std.proofs.Common.{◌≡◌, ℕ, ◌<◌, ◌≤◌, length, get_or, sym, ap, subst, arith}
+use Rattle.std.proofs.Common.{◌≡◌, ℕ, ◌<◌, length, get_or, ap, arith}
 use Rattle.std.proofs.lemmas.List.{get_or-take}
 use Rattle.pending.specs.declared.row.Pending.{Pending}
 use Rattle.pending.specs.declared.table.PendingTable.{PendingTable}
 use Rattle.pending.specs.Rows.{vacant}
 use Rattle.pending.specs.Tables.{rows_of}
 use Rattle.pending.proofs.Found.{length-rows}
-use Rattle.pending.proofs.Soonest.{reached, not-reached, none-there}
+use Rattle.pending.proofs.Soonest.{reached, not-reached}
 use Rattle.pending.proofs.table.PendingTable.first_expired.Goals as goal
 
 expiry-at : (t : PendingTable) (i : ℕ) → i < length (rows_of t) → (get_or (rows_of t) i vacant).expiry ≡ (get_or t.places i vacant).expiry

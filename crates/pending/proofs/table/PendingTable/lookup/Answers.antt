@@ -1,4 +1,4 @@
-use Rattle.std.proofs.Common.{◌≡◌, cond, get_or, Some, None, sym, ap, ◌∙◌, arith}
+use Rattle.std.proofs.Common.{cond, get_or, Some, None, sym, ap, ◌∙◌}
 use Rattle.std.proofs.lemmas.Bool.{lt-ltb}
 use Rattle.pending.specs.Rows.{vacant}
 use Rattle.pending.specs.Tables.{rows_of}
@@ -7,7 +7,7 @@ use Rattle.pending.proofs.table.PendingTable.lookup.Goals as goal
 
 pub returns-in_err-place : goal.returns-in_err-place
 returns-in_err-place c =
-    c.from-residual.ensures ∙ sym (absent-from 0 c.args.number (rows_of c.args.self.now) (sym c.in_err-place.ensures)).0
+    c.from_residual.ensures ∙ sym (absent-from 0 c.args.number (rows_of c.args.self.now) (sym c.in_err-place.ensures)).0
 
 pub returns : goal.returns
 returns c =

@@ -1,4 +1,4 @@
-use Rattle.std.proofs.Common.{◌≡◌, is_some, Some, None, sym, refl, ap, ◌∙◌, arith}
+use Rattle.std.proofs.Common.{is_some, sym, refl, ap, ◌∙◌, arith}
 use Rattle.pending.specs.Tables.{rows_of}
 use Rattle.pending.proofs.Found.{length-rows, found, absent-from}
 use Rattle.pending.proofs.table.PendingTable.remove.Goals as goal
@@ -14,7 +14,7 @@ close_gap-requires c =
     let few = t.few in
     let whole = t.whole in
     let f = found c.args.number (rows_of t) c.in-Some.place (sym c.in-Some.ensures) in
-    (omega (arith, f.there, length-rows t), omega arith)
+    record { in_use = omega (arith, f.there, length-rows t); there = omega arith }
 
 pub returns : goal.returns
 returns c =

@@ -3,7 +3,7 @@ use Rattle.std.proofs.lemmas.List.{take_at}
 use Rattle.routing.proofs.entry.Entry.new.Goals as goal
 
 pub invariant_of-result : goal.invariant_of-result
-invariant_of-result c = (omega arith, tt)
+invariant_of-result c = record { few = omega arith }
 
 pub returns : goal.returns
 returns c =

@@ -8,7 +8,7 @@ pub returns-in_err-entry : goal.returns-in_err-entry
 returns-in_err-entry c =
     let t = c.args.self.now in
     let d = c.args.destination.now in
-    let value = c.from-residual.ensures ∙ look-up-account (listed t) d _ c.in_err-entry.ensures in
+    let value = c.from_residual.ensures ∙ look-up-account (listed t) d _ c.in_err-entry.ensures in
     let longest = look-up-longest (listed t) d _ value in
     record {
       value = value;
