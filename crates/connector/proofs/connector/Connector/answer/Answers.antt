@@ -11,8 +11,8 @@ use Rattle.connector.proofs.Outcomes.{turned_so, refused-so, answer-short, answe
 use Rattle.connector.proofs.Endings.{answer-read, packet-short}
 use Rattle.connector.proofs.connector.Connector.answer.Goals as goal
 
-pub returns-then-buffer-lt-LONGEST-PACKET : goal.returns-then-buffer-lt-LONGEST-PACKET
-returns-then-buffer-lt-LONGEST-PACKET g c =
+pub returns-then-buffer-lt-LONGEST_PACKET : goal.returns-then-buffer-lt-LONGEST_PACKET
+returns-then-buffer-lt-LONGEST_PACKET g c =
     let k = c.args.self.now in
     record {
       does = refused-so g.S.Stage.held (set_up_of k) (books_of k) k.stages _ _ _ (answer-short g.H.ConditionHash.digest_of (books_of k) _ c.args.account c.args.number c.args.time _ (omega arith));
@@ -29,8 +29,8 @@ returns-then-not-has_account g c =
       unchanged = refl;
     }
 
-pub returns-then-time-gt-LAST-INSTANT : goal.returns-then-time-gt-LAST-INSTANT
-returns-then-time-gt-LAST-INSTANT g c =
+pub returns-then-time-gt-LAST_INSTANT : goal.returns-then-time-gt-LAST_INSTANT
+returns-then-time-gt-LAST_INSTANT g c =
     let k = c.args.self.now in
     record {
       does = refused-so g.S.Stage.held (set_up_of k) (books_of k) k.stages _ _ _ (answer-never g.H.ConditionHash.digest_of (books_of k) _ c.args.account c.args.number c.args.time _ (omega arith) c.if-not-has_account.ensures (omega arith));

@@ -27,8 +27,8 @@ decided-at look s b d a q t p r e h = sym (subst (λ (x : Books). decided x a q 
 same-turned : (x : turned.Rejected) (e : Ended) (f : Option Fault) → x.ended ≡ e → x.fault ≡ f → x ≡ record { ended = e; fault = f }
 same-turned x e f g h = λ i. record { ended = g i; fault = h i }
 
-pub returns-then-buffer-lt-LONGEST-PACKET : goal.returns-then-buffer-lt-LONGEST-PACKET
-returns-then-buffer-lt-LONGEST-PACKET g c =
+pub returns-then-buffer-lt-LONGEST_PACKET : goal.returns-then-buffer-lt-LONGEST_PACKET
+returns-then-buffer-lt-LONGEST_PACKET g c =
     let k = c.args.self.now in
     record {
       does = refused-so g.S.Stage.held (set_up_of k) (books_of k) k.stages _ _ _ (prepare-short (g.S.Stage.rule k.stages) (set_up_of k) (books_of k) _ c.args.account c.args.request c.args.time _ (omega arith));
@@ -45,8 +45,8 @@ returns-then-not-has_account g c =
       unchanged = refl;
     }
 
-pub returns-then-time-gt-LAST-INSTANT : goal.returns-then-time-gt-LAST-INSTANT
-returns-then-time-gt-LAST-INSTANT g c =
+pub returns-then-time-gt-LAST_INSTANT : goal.returns-then-time-gt-LAST_INSTANT
+returns-then-time-gt-LAST_INSTANT g c =
     let k = c.args.self.now in
     record {
       does = refused-so g.S.Stage.held (set_up_of k) (books_of k) k.stages _ _ _ (prepare-never (g.S.Stage.rule k.stages) (set_up_of k) (books_of k) _ c.args.account c.args.request c.args.time _ (omega arith) c.if-not-has_account.ensures (omega arith));

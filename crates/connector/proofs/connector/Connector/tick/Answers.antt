@@ -11,8 +11,8 @@ use Rattle.connector.proofs.Due.{due-found}
 use Rattle.connector.proofs.Outcomes.{turned_so, refused-so, tick-short, tick-never, tick-by}
 use Rattle.connector.proofs.connector.Connector.tick.Goals as goal
 
-pub returns-then-buffer-lt-LONGEST-PACKET : goal.returns-then-buffer-lt-LONGEST-PACKET
-returns-then-buffer-lt-LONGEST-PACKET g c =
+pub returns-then-buffer-lt-LONGEST_PACKET : goal.returns-then-buffer-lt-LONGEST_PACKET
+returns-then-buffer-lt-LONGEST_PACKET g c =
     let k = c.args.self.now in
     record {
       does = refused-so g.S.Stage.held (set_up_of k) (books_of k) k.stages _ _ _ (tick-short (books_of k) _ c.args.time (omega arith));
@@ -20,8 +20,8 @@ returns-then-buffer-lt-LONGEST-PACKET g c =
       unchanged = refl;
     }
 
-pub returns-then-time-gt-LAST-INSTANT : goal.returns-then-time-gt-LAST-INSTANT
-returns-then-time-gt-LAST-INSTANT g c =
+pub returns-then-time-gt-LAST_INSTANT : goal.returns-then-time-gt-LAST_INSTANT
+returns-then-time-gt-LAST_INSTANT g c =
     let k = c.args.self.now in
     record {
       does = refused-so g.S.Stage.held (set_up_of k) (books_of k) k.stages _ _ _ (tick-never (books_of k) _ c.args.time (omega arith) (omega arith));

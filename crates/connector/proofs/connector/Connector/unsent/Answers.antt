@@ -15,8 +15,8 @@ use Rattle.connector.proofs.connector.Connector.unsent.Goals as goal
 found-again : (b : Books) (n : ℕ) (r : Pending) → Some r ≡ lookup n b.rows → lookup r.number b.rows ≡ Some r
 found-again b n r e = ap (λ m. lookup m b.rows) (lookup-number n b.rows r (sym e)) ∙ sym e
 
-pub returns-then-buffer-lt-LONGEST-PACKET : goal.returns-then-buffer-lt-LONGEST-PACKET
-returns-then-buffer-lt-LONGEST-PACKET g c =
+pub returns-then-buffer-lt-LONGEST_PACKET : goal.returns-then-buffer-lt-LONGEST_PACKET
+returns-then-buffer-lt-LONGEST_PACKET g c =
     let k = c.args.self.now in
     record {
       does = refused-so g.S.Stage.held (set_up_of k) (books_of k) k.stages _ _ _ (unsent-short (books_of k) _ c.args.duty.number (omega arith));

@@ -9,7 +9,11 @@ pub invariant_of-result : goal.invariant_of-result
 invariant_of-result c =
     let s = c.args.address.now in
     let front : take c.put-size.result c.put-size.new.out ≡ c.args.address.now = ap (take c.put-size.result) c.put-size.ensures.wrote.is ∙ take_at s _ c.put-size.result (omega (arith, c.put-size.ensures.place)) in
-    (omega (arith, c.put-size.ensures.place), (c.put-size.auto.out, (ap is_address front ∙ sym c.if-not-is_address.ensures, tt)))
+    record {
+      few = omega (arith, c.put-size.ensures.place);
+      whole = c.put-size.auto.out;
+      valid = ap is_address front ∙ sym c.if-not-is_address.ensures;
+    }
 
 pub returns : goal.returns
 returns c =
