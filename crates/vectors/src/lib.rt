@@ -1,4 +1,6 @@
 // Figures and examples: what the rules give at their edges, proved, and packets written down by hand, tested.
+#![tactic(auto)]
+
 ghost use Rattle.std.specs.Prelude.{◌≡◌};
 ghost use Rattle.vectors.specs.Figures.{EdgeFigures};
 

@@ -32,13 +32,13 @@ const PREFIXES_ONLY: [&'static [u8]; 4] = [b"", b"g", b"test1", b"private"];
 #[test]
 fn addresses_and_prefixes(rt: HostRuntime) {
     for (i, bytes) in ADDRESSES.iter().enumerate() {
-        assert!(rt; is_address(bytes) && is_prefix(bytes), "{}", i);
+        assert!(rt; is_address(bytes) && is_prefix(bytes), "{i}");
     }
     for (i, bytes) in NEITHER.iter().enumerate() {
-        assert!(rt; !is_address(bytes) && !is_prefix(bytes), "{}", i);
+        assert!(rt; !is_address(bytes) && !is_prefix(bytes), "{i}");
     }
     for (i, bytes) in PREFIXES_ONLY.iter().enumerate() {
-        assert!(rt; !is_address(bytes) && is_prefix(bytes), "{}", i);
+        assert!(rt; !is_address(bytes) && is_prefix(bytes), "{i}");
     }
 }
 

@@ -28,8 +28,8 @@ const CODES: [(RejectCode, &'static [u8]); 21] = [
 #[test]
 fn the_bytes_of_each_code(rt: HostRuntime) {
     for (i, (code, bytes)) in CODES.iter().enumerate() {
-        assert!(rt; &code.bytes()[..] == *bytes, "{}", i);
-        assert!(rt; is_code(bytes), "{}", i);
+        assert!(rt; &code.bytes()[..] == *bytes, "{i}");
+        assert!(rt; is_code(bytes), "{i}");
     }
 }
 
@@ -41,6 +41,6 @@ const NO_CODES: [&'static [u8]; 9] = [
 fn bytes_that_are_a_code_or_none(rt: HostRuntime) {
     assert!(rt; is_code(b"F47") && is_code(b"T50") && is_code(b"R09"));
     for (i, bytes) in NO_CODES.iter().enumerate() {
-        assert!(rt; !is_code(bytes), "{}", i);
+        assert!(rt; !is_code(bytes), "{i}");
     }
 }

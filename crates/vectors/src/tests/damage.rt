@@ -2,7 +2,8 @@
 // A table's row is short where it can be, so that a case is a line.
 use crate::tests::packets::{FULFILL, PREPARE, REJECT};
 use crate::tests::support::check_fault;
-use std::alloc::Global;
+use std::alloc::AllocError;
+use std::fmt::Display;
 use std::process::Abort;
 use std::test::Fail;
 use wire::fault::Cause::{BadCode, CutShort, InvalidAddress, InvalidInstant, LeftOver, TooLong};
@@ -23,35 +24,44 @@ type Damage = (
 
 // The good packet with a part replaced, and with its length made right again.
 pub(crate) fn damaged(
-    heap: Global,
+    rt: &(impl Abort + AllocGlobal),
     good: &[u8],
     from: usize,
     to: usize,
     with: &[u8],
-) -> Result<Vec<u8>, Fail> {
-    if from < 2 || from > to || to > good.len() {
-        return Err(Fail::new("the part does not lie in the content"));
-    }
-    let mut bytes = good[0..from].to_vec(heap)?;
+    name: &impl Display,
+) -> Result<Vec<u8>, AllocError> {
+    assert!(rt;
+        2 <= from && from <= to && to <= good.len(),
+        "{name}: the part does not lie in the content"
+    );
+    let mut bytes = good[0..from].to_vec(rt.alloc())?;
     bytes.extend_from_slice(with)?;
     bytes.extend_from_slice(&good[to..])?;
     let n = bytes.len();
-    if n < 2 || n > 129 {
-        return Err(Fail::new("the packet is too long for a determinant of one byte"));
-    }
+    assert!(rt;
+        2 <= n && n <= 129,
+        "{name}: the packet is too long for a determinant of one byte"
+    );
     bytes[1] = (n - 2) as u8;
     Ok(bytes)
 }
 
-fn check_damages(rt: &impl Abort, heap: Global, good: &[u8], cases: &[Damage]) -> Result<(), Fail> {
+fn check_damages(
+    rt: &(impl Abort + AllocGlobal),
+    good: &[u8],
+    cases: &[Damage],
+    packet: &str,
+) -> Result<(), AllocError> {
     for (name, from, to, with, layer, cause, offset) in cases {
-        let bytes = damaged(heap, good, *from, *to, with)?;
+        let name = format_args!("{packet}: {name}");
+        let bytes = damaged(rt, good, *from, *to, with, &name)?;
         let fault = Fault {
             layer: *layer,
             cause: *cause,
             offset: *offset,
         };
-        check_fault(rt, &bytes, fault, name)?;
+        check_fault(rt, &bytes, fault, &name);
     }
     Ok(())
 }
@@ -107,9 +117,10 @@ const REJECT_LENGTHS: [Damage; 14] = [
 
 #[test]
 fn packets_of_a_wrong_length(rt: HostRuntime) -> Result<(), Fail> {
-    check_damages(&rt, rt.alloc(), PREPARE, &PREPARE_LENGTHS).note("Prepare")?;
-    check_damages(&rt, rt.alloc(), FULFILL, &FULFILL_LENGTHS).note("Fulfill")?;
-    check_damages(&rt, rt.alloc(), REJECT, &REJECT_LENGTHS).note("Reject")
+    check_damages(&rt, PREPARE, &PREPARE_LENGTHS, "Prepare")?;
+    check_damages(&rt, FULFILL, &FULFILL_LENGTHS, "Fulfill")?;
+    check_damages(&rt, REJECT, &REJECT_LENGTHS, "Reject")?;
+    Ok(())
 }
 
 // A field in whose place these bytes are put one after another, each with the same fault; and again with nothing behind
@@ -123,16 +134,25 @@ struct Place<'a> {
 }
 
 fn check_meanings(
-    rt: &impl Abort,
-    heap: Global,
+    rt: &(impl Abort + AllocGlobal),
     place: &Place<'_>,
     cases: &[&[u8]],
-) -> Result<(), Fail> {
+    field: &str,
+) -> Result<(), AllocError> {
     for (i, bytes) in cases.iter().enumerate() {
-        let whole = damaged(heap, place.packet, place.from, place.to, bytes)?;
-        check_fault(rt, &whole, place.fault, "whole").note(i)?;
-        let cut = damaged(heap, place.packet, place.from, place.packet.len(), bytes)?;
-        check_fault(rt, &cut, place.fault, "and nothing behind it").note(i)?;
+        let name = format_args!("{field}: {i}: whole");
+        let whole = damaged(rt, place.packet, place.from, place.to, bytes, &name)?;
+        check_fault(rt, &whole, place.fault, &name);
+        let name = format_args!("{field}: {i}: and nothing behind it");
+        let cut = damaged(
+            rt,
+            place.packet,
+            place.from,
+            place.packet.len(),
+            bytes,
+            &name,
+        )?;
+        check_fault(rt, &cut, place.fault, &name);
     }
     Ok(())
 }
@@ -184,12 +204,13 @@ fn field_at<'a>(packet: &'a [u8], from: usize, to: usize, layer: Layer, cause: C
 #[test]
 fn fields_that_mean_nothing(rt: HostRuntime) -> Result<(), Fail> {
     let expiry = field_at(PREPARE, 10, 27, Calendar, InvalidInstant);
-    check_meanings(&rt, rt.alloc(), &expiry, &NO_INSTANTS).note("expiry")?;
+    check_meanings(&rt, &expiry, &NO_INSTANTS, "expiry")?;
     let destination = field_at(PREPARE, 59, 70, Address, InvalidAddress);
-    check_meanings(&rt, rt.alloc(), &destination, &NO_ADDRESSES).note("destination")?;
-    check_meanings(&rt, rt.alloc(), &destination, &[b"\x00"]).note("an empty destination")?;
+    check_meanings(&rt, &destination, &NO_ADDRESSES, "destination")?;
+    check_meanings(&rt, &destination, &[b"\x00"], "an empty destination")?;
     let code = field_at(REJECT, 2, 5, Layer::Field, BadCode);
-    check_meanings(&rt, rt.alloc(), &code, &NO_CODES).note("code")?;
+    check_meanings(&rt, &code, &NO_CODES, "code")?;
     let triggered_by = field_at(REJECT, 5, 16, Address, InvalidAddress);
-    check_meanings(&rt, rt.alloc(), &triggered_by, &NO_ADDRESSES).note("triggeredBy")
+    check_meanings(&rt, &triggered_by, &NO_ADDRESSES, "triggeredBy")?;
+    Ok(())
 }

@@ -2,7 +2,7 @@
 use crate::tests::damage::damaged;
 use crate::tests::packets::{FULFILL, PREPARE, REJECT};
 use crate::tests::support::check_fault;
-use std::alloc::Global;
+use std::alloc::AllocError;
 use std::process::Abort;
 use std::test::Fail;
 use wire::fault::Cause::{BadDeterminant, CutShort, TooLong};
@@ -47,37 +47,44 @@ const LEADS: [Lead; 21] = [
     ("65,535 at the end", b"\x82\xFF\xFF", true, TooLong),
 ];
 
-fn check_leads(rt: &impl Abort, heap: Global, good: &[u8], at: usize) -> Result<(), Fail> {
-    if at >= good.len() {
-        return Err(Fail::new("no determinant there"));
-    }
+fn check_leads(
+    rt: &(impl Abort + AllocGlobal),
+    good: &[u8],
+    at: usize,
+    field: &str,
+) -> Result<(), AllocError> {
+    assert!(rt; at < good.len(), "{field}: no determinant there");
     for (name, bytes, ends, cause) in &LEADS {
         let to = if *ends { good.len() } else { at + 1 };
-        let packet = damaged(heap, good, at, to, bytes)?;
+        let name = format_args!("{field}: {name}");
+        let packet = damaged(rt, good, at, to, bytes, &name)?;
         let fault = Fault {
             layer: Field,
             cause: *cause,
             offset: at,
         };
-        check_fault(rt, &packet, fault, name)?;
+        check_fault(rt, &packet, fault, &name);
     }
     Ok(())
 }
 
 #[test]
 fn wrong_determinants_in_a_prepare(rt: HostRuntime) -> Result<(), Fail> {
-    check_leads(&rt, rt.alloc(), PREPARE, 59).note("destination")?;
-    check_leads(&rt, rt.alloc(), PREPARE, 70).note("data")
+    check_leads(&rt, PREPARE, 59, "destination")?;
+    check_leads(&rt, PREPARE, 70, "data")?;
+    Ok(())
 }
 
 #[test]
 fn wrong_determinants_in_a_fulfill(rt: HostRuntime) -> Result<(), Fail> {
-    check_leads(&rt, rt.alloc(), FULFILL, 34).note("data")
+    check_leads(&rt, FULFILL, 34, "data")?;
+    Ok(())
 }
 
 #[test]
 fn wrong_determinants_in_a_reject(rt: HostRuntime) -> Result<(), Fail> {
-    check_leads(&rt, rt.alloc(), REJECT, 5).note("triggeredBy")?;
-    check_leads(&rt, rt.alloc(), REJECT, 16).note("message")?;
-    check_leads(&rt, rt.alloc(), REJECT, 26).note("data")
+    check_leads(&rt, REJECT, 5, "triggeredBy")?;
+    check_leads(&rt, REJECT, 16, "message")?;
+    check_leads(&rt, REJECT, 26, "data")?;
+    Ok(())
 }

@@ -136,9 +136,9 @@ fn digests_of_another_implementation(rt: HostRuntime) -> Result<(), Fail> {
     for (input, expected) in &DIGESTS {
         let bytes = from_hex(input)?;
         let hash = from_hex(expected)?;
-        assert!(rt; &digest(&bytes)[..] == &hash[..], "{}", *input);
-        assert!(rt; &Sha256.hash(&bytes)[..] == &hash[..], "{}", *input);
-        assert!(rt; fulfils(&Sha256, &bytes, &hash), "{}", *input);
+        assert!(rt; &digest(&bytes)[..] == &hash[..], "{input}");
+        assert!(rt; &Sha256.hash(&bytes)[..] == &hash[..], "{input}");
+        assert!(rt; fulfils(&Sha256, &bytes, &hash), "{input}");
     }
     Ok(())
 }

@@ -5,6 +5,7 @@ use crate::tests::support::{ROOM, check_read, pattern};
 use packet::value::{Fulfill, Packet, Prepare, Reject};
 use packet_writer::writing::{write_fulfill, write_packet, write_prepare, write_reject};
 use std::alloc::Global;
+use std::fmt::Display;
 use std::process::Abort;
 use std::test::Fail;
 
@@ -23,53 +24,53 @@ fn write_by_kind(out: &mut [u8], packet: &Packet<'_>) -> Option<usize> {
 
 // Both writers write these bytes, and nothing behind them.
 pub(crate) fn check_written(
-    rt: &impl Abort,
-    heap: Global,
+    rt: &(impl Abort + AllocGlobal),
     packet: &Packet<'_>,
     expected: &[u8],
+    name: &str,
 ) -> Result<(), Fail> {
-    let before = pattern(heap, ROOM)?;
-    let mut out = pattern(heap, ROOM)?;
+    let before = pattern(rt.alloc(), ROOM)?;
+    let mut out = pattern(rt.alloc(), ROOM)?;
     let Ok(n) = write_packet(&mut out, packet) else {
-        return Err(Fail::new("not written"));
+        panic!(rt; "{name}: not written");
     };
-    check_front(rt, &before, &out, n, expected);
-    let mut again = pattern(heap, ROOM)?;
-    assert_eq!(rt; write_by_kind(&mut again, packet), Some(n));
+    check_front(rt, &before, &out, n, expected, name);
+    let mut again = pattern(rt.alloc(), ROOM)?;
+    assert_eq!(rt; write_by_kind(&mut again, packet), Some(n), "{name}");
     assert!(rt;
         again.as_slice() == out.as_slice(),
-        "the two writers differ"
+        "{name}: the two writers differ"
     );
     Ok(())
 }
 
-fn check_front(rt: &impl Abort, before: &[u8], out: &[u8], n: usize, expected: &[u8]) {
-    assert!(rt; n <= out.len() && n <= before.len());
-    assert!(rt; &out[0..n] == expected, "other bytes");
+fn check_front(rt: &impl Abort, before: &[u8], out: &[u8], n: usize, expected: &[u8], name: &str) {
+    assert!(rt; n <= out.len() && n <= before.len(), "{name}");
+    assert!(rt; &out[0..n] == expected, "{name}: other bytes");
     assert!(rt;
         &out[n..] == &before[n..],
-        "bytes behind the packet changed"
+        "{name}: bytes behind the packet changed"
     );
 }
 
 // The packet is written in this many bytes, which are read as the packet again.
 fn check_round_trip(
-    rt: &impl Abort,
-    heap: Global,
+    rt: &(impl Abort + AllocGlobal),
     packet: &Packet<'_>,
     size: usize,
+    name: &impl Display,
 ) -> Result<(), Fail> {
-    let before = pattern(heap, ROOM)?;
-    let mut out = pattern(heap, ROOM)?;
+    let before = pattern(rt.alloc(), ROOM)?;
+    let mut out = pattern(rt.alloc(), ROOM)?;
     let Ok(n) = write_packet(&mut out, packet) else {
-        return Err(Fail::new("not written"));
+        panic!(rt; "{name}: not written");
     };
-    assert_eq!(rt; n, size);
-    assert!(rt; n <= out.len() && n <= before.len());
-    check_read(rt, &out[0..n], packet, "read again")?;
+    assert_eq!(rt; n, size, "{name}");
+    assert!(rt; n <= out.len() && n <= before.len(), "{name}");
+    check_read(rt, &out[0..n], packet, &format_args!("{name}: read again"));
     assert!(rt;
         &out[n..] == &before[n..],
-        "bytes behind the packet changed"
+        "{name}: bytes behind the packet changed"
     );
     Ok(())
 }
@@ -91,8 +92,7 @@ const EDGES: [(usize, usize, usize, usize); 6] = [
 ];
 
 fn check_prepare_trip<'a>(
-    rt: &impl Abort,
-    heap: Global,
+    rt: &(impl Abort + AllocGlobal),
     destination: &'a [u8],
     data: &'a [u8],
     size: usize,
@@ -104,12 +104,13 @@ fn check_prepare_trip<'a>(
         destination,
         data,
     };
-    check_round_trip(rt, heap, &Packet::Prepare(prepare), size).note("Prepare")
+    let length = data.len();
+    let name = format_args!("{length}: Prepare");
+    check_round_trip(rt, &Packet::Prepare(prepare), size, &name)
 }
 
 fn check_fulfill_trip<'a>(
-    rt: &impl Abort,
-    heap: Global,
+    rt: &(impl Abort + AllocGlobal),
     data: &'a [u8],
     size: usize,
 ) -> Result<(), Fail> {
@@ -117,12 +118,13 @@ fn check_fulfill_trip<'a>(
         fulfilment: FULFILMENT,
         data,
     };
-    check_round_trip(rt, heap, &Packet::Fulfill(fulfill), size).note("Fulfill")
+    let length = data.len();
+    let name = format_args!("{length}: Fulfill");
+    check_round_trip(rt, &Packet::Fulfill(fulfill), size, &name)
 }
 
 fn check_reject_trip<'a>(
-    rt: &impl Abort,
-    heap: Global,
+    rt: &(impl Abort + AllocGlobal),
     triggered_by: &'a [u8],
     message: &'a [u8],
     data: &'a [u8],
@@ -134,24 +136,18 @@ fn check_reject_trip<'a>(
         message,
         data,
     };
-    check_round_trip(rt, heap, &Packet::Reject(reject), size).note("Reject")
+    let length = data.len();
+    let name = format_args!("{length}: Reject");
+    check_round_trip(rt, &Packet::Reject(reject), size, &name)
 }
 
 #[test]
 fn data_at_the_edges_of_the_determinant(rt: HostRuntime) -> Result<(), Fail> {
     for (length, of_prepare, of_fulfill, of_reject) in &EDGES {
         let data = pattern(rt.alloc(), *length)?;
-        check_prepare_trip(&rt, rt.alloc(), b"g.eu.alice", &data, *of_prepare).note(*length)?;
-        check_fulfill_trip(&rt, rt.alloc(), &data, *of_fulfill).note(*length)?;
-        check_reject_trip(
-            &rt,
-            rt.alloc(),
-            b"test.hub-1",
-            b"no route!",
-            &data,
-            *of_reject,
-        )
-        .note(*length)?;
+        check_prepare_trip(&rt, b"g.eu.alice", &data, *of_prepare)?;
+        check_fulfill_trip(&rt, &data, *of_fulfill)?;
+        check_reject_trip(&rt, b"test.hub-1", b"no route!", &data, *of_reject)?;
     }
     Ok(())
 }
@@ -172,6 +168,6 @@ fn the_longest_packets(rt: HostRuntime) -> Result<(), Fail> {
     let address = longest_address(rt.alloc())?;
     let message = pattern(rt.alloc(), 8_191)?;
     let data = pattern(rt.alloc(), 32_767)?;
-    check_prepare_trip(&rt, rt.alloc(), &address, &data, 33_857)?;
-    check_reject_trip(&rt, rt.alloc(), &address, &message, &data, 41_997)
+    check_prepare_trip(&rt, &address, &data, 33_857)?;
+    check_reject_trip(&rt, &address, &message, &data, 41_997)
 }

@@ -7,6 +7,7 @@ use stage::accounts::AccountPair;
 use stage::end::End;
 use stage::interface::Stage;
 use stage::transfer::{Transfer, Verdict};
+use std::fmt::Display;
 use std::process::Abort;
 use std::test::Fail;
 
@@ -24,14 +25,13 @@ fn transfer(number: u32, amount: u64, expiry: u64, time: u64) -> Result<Transfer
 }
 
 // Passed with this amount and this expiry.
-fn check_passed(rt: &impl Abort, verdict: Verdict, amount: u64, expiry: u64) -> Result<(), Fail> {
+fn check_passed(rt: &impl Abort, verdict: Verdict, amount: u64, expiry: u64, name: &impl Display) {
     match verdict {
         Verdict::Pass(passed) => {
-            assert_eq!(rt; passed.amount, amount);
-            assert_eq!(rt; passed.expiry, expiry);
-            Ok(())
+            assert_eq!(rt; passed.amount, amount, "{name}");
+            assert_eq!(rt; passed.expiry, expiry, "{name}");
         }
-        Verdict::Reject(_) => Err(Fail::new("rejected")),
+        Verdict::Reject(_) => panic!(rt; "{name}: rejected"),
     }
 }
 
@@ -41,14 +41,14 @@ fn check_rejected(
     code: &[u8],
     first: u64,
     second: u64,
-) -> Result<(), Fail> {
+    name: &impl Display,
+) {
     match verdict {
-        Verdict::Pass(_) => Err(Fail::new("passed")),
+        Verdict::Pass(_) => panic!(rt; "{name}: passed"),
         Verdict::Reject(rejected) => {
-            assert!(rt; &rejected.code.bytes()[..] == code);
-            assert_eq!(rt; rejected.first, first);
-            assert_eq!(rt; rejected.second, second);
-            Ok(())
+            assert!(rt; &rejected.code.bytes()[..] == code, "{name}: code");
+            assert_eq!(rt; rejected.first, first, "{name}: first");
+            assert_eq!(rt; rejected.second, second, "{name}: second");
         }
     }
 }
@@ -78,9 +78,9 @@ fn the_maximum_and_one_more(rt: HostRuntime) -> Result<(), Fail> {
         };
         let verdict = layer.look(transfer(1, *amount, 10, 0)?);
         if *passes {
-            check_passed(&rt, verdict, *amount, 10).note(*amount)?;
+            check_passed(&rt, verdict, *amount, 10, amount);
         } else {
-            check_rejected(&rt, verdict, b"F08", *amount, *most).note(*amount)?;
+            check_rejected(&rt, verdict, b"F08", *amount, *most, amount);
         }
     }
     Ok(())
@@ -108,8 +108,8 @@ fn conversions_at_their_edges(rt: HostRuntime) -> Result<(), Fail> {
         };
         let verdict = layer.look(transfer(1, *amount, 10, 0)?);
         match expected {
-            Ok(result) => check_passed(&rt, verdict, *result, 10).note(*amount)?,
-            Err(code) => check_rejected(&rt, verdict, code, 0, 0).note(*amount)?,
+            Ok(result) => check_passed(&rt, verdict, *result, 10, amount),
+            Err(code) => check_rejected(&rt, verdict, code, 0, 0, amount),
         }
     }
     Ok(())
@@ -139,8 +139,8 @@ fn margins_and_holds(rt: HostRuntime) -> Result<(), Fail> {
         };
         let verdict = layer.look(transfer(1, 7, *expiry, *time)?);
         match expected {
-            Some(passed) => check_passed(&rt, verdict, 7, *passed).note(*expiry)?,
-            None => check_rejected(&rt, verdict, b"R02", 0, 0).note(*expiry)?,
+            Some(passed) => check_passed(&rt, verdict, 7, *passed, expiry),
+            None => check_rejected(&rt, verdict, b"R02", 0, 0, expiry),
         }
     }
     Ok(())
@@ -150,18 +150,20 @@ fn margins_and_holds(rt: HostRuntime) -> Result<(), Fail> {
 fn sixty_four_numbers_are_open_at_most(rt: HostRuntime) -> Result<(), Fail> {
     let mut end = End::new();
     for number in 1..65u32 {
-        check_passed(&rt, end.look(transfer(number, 5, 9, 0)?), 5, 9).note(number)?;
+        check_passed(&rt, end.look(transfer(number, 5, 9, 0)?), 5, 9, &number);
         end.take(transfer(number, 5, 9, 0)?);
     }
     assert!(rt; !end.idle());
-    check_rejected(&rt, end.look(transfer(64, 5, 9, 0)?), b"T00", 0, 0).note("open already")?;
-    check_rejected(&rt, end.look(transfer(65, 5, 9, 0)?), b"T03", 0, 0).note("the 65th")?;
+    let again = end.look(transfer(64, 5, 9, 0)?);
+    check_rejected(&rt, again, b"T00", 0, 0, &"open already");
+    let another = end.look(transfer(65, 5, 9, 0)?);
+    check_rejected(&rt, another, b"T03", 0, 0, &"the 65th");
     end.close(65);
-    check_rejected(&rt, end.look(transfer(65, 5, 9, 0)?), b"T03", 0, 0).note(
-        "closed what was not open",
-    )?;
+    let another = end.look(transfer(65, 5, 9, 0)?);
+    check_rejected(&rt, another, b"T03", 0, 0, &"closed what was not open");
     end.close(30);
-    check_passed(&rt, end.look(transfer(65, 5, 9, 0)?), 5, 9).note("one was closed")?;
+    let another = end.look(transfer(65, 5, 9, 0)?);
+    check_passed(&rt, another, 5, 9, &"one was closed");
     for number in 1..65u32 {
         end.close(number);
     }
@@ -208,34 +210,15 @@ fn the_whole_stack(rt: HostRuntime) -> Result<(), Fail> {
     let Ok(mut whole) = stack(FIGURES) else {
         return Err(Fail::new("not made"));
     };
-    check_passed(
-        &rt,
-        whole.look(transfer(1, 250, 50_000, 10_000)?),
-        500,
-        40_000,
-    )?;
-    check_rejected(
-        &rt,
-        whole.look(transfer(1, 501, 50_000, 10_000)?),
-        b"F08",
-        501,
-        500,
-    )?;
-    check_rejected(
-        &rt,
-        whole.look(transfer(1, 250, 11_000, 10_000)?),
-        b"R02",
-        0,
-        0,
-    )?;
+    let converted = whole.look(transfer(1, 250, 50_000, 10_000)?);
+    check_passed(&rt, converted, 500, 40_000, &"all layers pass");
+    let too_much = whole.look(transfer(1, 501, 50_000, 10_000)?);
+    check_rejected(&rt, too_much, b"F08", 501, 500, &"above the maximum");
+    let too_late = whole.look(transfer(1, 250, 11_000, 10_000)?);
+    check_rejected(&rt, too_late, b"R02", 0, 0, &"no time left");
     whole.take(transfer(1, 250, 50_000, 10_000)?);
-    check_rejected(
-        &rt,
-        whole.look(transfer(1, 250, 50_000, 10_000)?),
-        b"T00",
-        0,
-        0,
-    )?;
+    let again = whole.look(transfer(1, 250, 50_000, 10_000)?);
+    check_rejected(&rt, again, b"T00", 0, 0, &"open already");
     whole.close(1);
     assert!(rt; whole.idle());
     Ok(())

@@ -2,8 +2,8 @@
 use packet::reading::{read_answer, read_packet, read_prepare};
 use packet::value::{Answer, Fulfill, Packet, Prepare, Reject};
 use std::alloc::{AllocError, Global};
+use std::fmt::Display;
 use std::process::Abort;
-use std::test::Fail;
 use wire::fault::{Cause, Fault, Layer};
 
 // How long a buffer the tests write into, more than the longest packet.
@@ -37,12 +37,7 @@ fn answer_fault(bytes: &[u8]) -> Option<Fault> {
 }
 
 // Each of the three readers refuses the bytes: with the fault if it reads their kind, and else with a wrong type.
-pub(crate) fn check_fault(
-    rt: &impl Abort,
-    bytes: &[u8],
-    fault: Fault,
-    name: &str,
-) -> Result<(), Fail> {
+pub(crate) fn check_fault(rt: &impl Abort, bytes: &[u8], fault: Fault, name: &impl Display) {
     let of_prepare = if matches!(bytes, [0x0D | 0x0E, ..]) {
         WRONG_TYPE
     } else {
@@ -53,70 +48,102 @@ pub(crate) fn check_fault(
     } else {
         fault
     };
-    assert_eq!(rt; packet_fault(bytes), Some(fault), "{}", name);
-    assert_eq!(rt; prepare_fault(bytes), Some(of_prepare), "{}", name);
-    assert_eq!(rt; answer_fault(bytes), Some(of_answer), "{}", name);
-    Ok(())
+    assert_eq!(rt; packet_fault(bytes), Some(fault), "{name}");
+    assert_eq!(rt; prepare_fault(bytes), Some(of_prepare), "{name}");
+    assert_eq!(rt; answer_fault(bytes), Some(of_answer), "{name}");
 }
 
-fn check_same_prepare(rt: &impl Abort, read: &Prepare<'_>, expected: &Prepare<'_>) {
-    assert_eq!(rt; read.amount, expected.amount, "amount");
-    assert_eq!(rt; read.expiry, expected.expiry, "expiry");
-    assert!(rt; read.condition == expected.condition, "condition");
-    assert!(rt; read.destination == expected.destination, "destination");
-    assert!(rt; read.data == expected.data, "data");
+fn check_same_prepare(
+    rt: &impl Abort,
+    read: &Prepare<'_>,
+    expected: &Prepare<'_>,
+    name: &impl Display,
+) {
+    assert_eq!(rt; read.amount, expected.amount, "{name}: amount");
+    assert_eq!(rt; read.expiry, expected.expiry, "{name}: expiry");
+    assert!(rt; read.condition == expected.condition, "{name}: condition");
+    assert!(rt;
+        read.destination == expected.destination,
+        "{name}: destination"
+    );
+    assert!(rt; read.data == expected.data, "{name}: data");
 }
 
-fn check_same_fulfill(rt: &impl Abort, read: &Fulfill<'_>, expected: &Fulfill<'_>) {
-    assert!(rt; read.fulfilment == expected.fulfilment, "fulfilment");
-    assert!(rt; read.data == expected.data, "data");
+fn check_same_fulfill(
+    rt: &impl Abort,
+    read: &Fulfill<'_>,
+    expected: &Fulfill<'_>,
+    name: &impl Display,
+) {
+    assert!(rt;
+        read.fulfilment == expected.fulfilment,
+        "{name}: fulfilment"
+    );
+    assert!(rt; read.data == expected.data, "{name}: data");
 }
 
-fn check_same_reject(rt: &impl Abort, read: &Reject<'_>, expected: &Reject<'_>) {
-    assert!(rt; read.code == expected.code, "code");
-    assert!(rt; read.triggered_by == expected.triggered_by, "triggeredBy");
-    assert!(rt; read.message == expected.message, "message");
-    assert!(rt; read.data == expected.data, "data");
+fn check_same_reject(
+    rt: &impl Abort,
+    read: &Reject<'_>,
+    expected: &Reject<'_>,
+    name: &impl Display,
+) {
+    assert!(rt; read.code == expected.code, "{name}: code");
+    assert!(rt;
+        read.triggered_by == expected.triggered_by,
+        "{name}: triggeredBy"
+    );
+    assert!(rt; read.message == expected.message, "{name}: message");
+    assert!(rt; read.data == expected.data, "{name}: data");
 }
 
 // Every reader of Prepares reads the bytes as this one, and the reader of answers refuses them.
-fn check_prepare(rt: &impl Abort, bytes: &[u8], expected: &Prepare<'_>) -> Result<(), Fail> {
+fn check_prepare(rt: &impl Abort, bytes: &[u8], expected: &Prepare<'_>, name: &impl Display) {
     let Ok(Packet::Prepare(read)) = read_packet(bytes) else {
-        return Err(Fail::new("not read as a Prepare"));
+        panic!(rt; "{name}: not read as a Prepare");
     };
-    check_same_prepare(rt, &read, expected);
+    check_same_prepare(rt, &read, expected, name);
     let Ok(read) = read_prepare(bytes) else {
-        return Err(Fail::new("not read by read_prepare"));
+        panic!(rt; "{name}: not read by read_prepare");
     };
-    check_same_prepare(rt, &read, expected);
-    assert_eq!(rt; answer_fault(bytes), Some(WRONG_TYPE), "read_answer");
-    Ok(())
+    check_same_prepare(rt, &read, expected, name);
+    assert_eq!(rt;
+        answer_fault(bytes),
+        Some(WRONG_TYPE),
+        "{name}: read_answer"
+    );
 }
 
-fn check_fulfill(rt: &impl Abort, bytes: &[u8], expected: &Fulfill<'_>) -> Result<(), Fail> {
+fn check_fulfill(rt: &impl Abort, bytes: &[u8], expected: &Fulfill<'_>, name: &impl Display) {
     let Ok(Packet::Fulfill(read)) = read_packet(bytes) else {
-        return Err(Fail::new("not read as a Fulfill"));
+        panic!(rt; "{name}: not read as a Fulfill");
     };
-    check_same_fulfill(rt, &read, expected);
+    check_same_fulfill(rt, &read, expected, name);
     let Ok(Answer::Fulfill(read)) = read_answer(bytes) else {
-        return Err(Fail::new("not read by read_answer"));
+        panic!(rt; "{name}: not read by read_answer");
     };
-    check_same_fulfill(rt, &read, expected);
-    assert_eq!(rt; prepare_fault(bytes), Some(WRONG_TYPE), "read_prepare");
-    Ok(())
+    check_same_fulfill(rt, &read, expected, name);
+    assert_eq!(rt;
+        prepare_fault(bytes),
+        Some(WRONG_TYPE),
+        "{name}: read_prepare"
+    );
 }
 
-fn check_reject(rt: &impl Abort, bytes: &[u8], expected: &Reject<'_>) -> Result<(), Fail> {
+fn check_reject(rt: &impl Abort, bytes: &[u8], expected: &Reject<'_>, name: &impl Display) {
     let Ok(Packet::Reject(read)) = read_packet(bytes) else {
-        return Err(Fail::new("not read as a Reject"));
+        panic!(rt; "{name}: not read as a Reject");
     };
-    check_same_reject(rt, &read, expected);
+    check_same_reject(rt, &read, expected, name);
     let Ok(Answer::Reject(read)) = read_answer(bytes) else {
-        return Err(Fail::new("not read by read_answer"));
+        panic!(rt; "{name}: not read by read_answer");
     };
-    check_same_reject(rt, &read, expected);
-    assert_eq!(rt; prepare_fault(bytes), Some(WRONG_TYPE), "read_prepare");
-    Ok(())
+    check_same_reject(rt, &read, expected, name);
+    assert_eq!(rt;
+        prepare_fault(bytes),
+        Some(WRONG_TYPE),
+        "{name}: read_prepare"
+    );
 }
 
 // The readers of the packet's kind read the bytes as this packet, field by field; the other one refuses them.
@@ -124,12 +151,12 @@ pub(crate) fn check_read(
     rt: &impl Abort,
     bytes: &[u8],
     expected: &Packet<'_>,
-    name: &str,
-) -> Result<(), Fail> {
+    name: &impl Display,
+) {
     match expected {
-        Packet::Prepare(p) => check_prepare(rt, bytes, p).note(name),
-        Packet::Fulfill(f) => check_fulfill(rt, bytes, f).note(name),
-        Packet::Reject(r) => check_reject(rt, bytes, r).note(name),
+        Packet::Prepare(p) => check_prepare(rt, bytes, p, name),
+        Packet::Fulfill(f) => check_fulfill(rt, bytes, f, name),
+        Packet::Reject(r) => check_reject(rt, bytes, r, name),
     }
 }
 

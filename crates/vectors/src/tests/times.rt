@@ -28,11 +28,11 @@ const TIMES: [(&'static [u8], u64); 20] = [
 #[test]
 fn digits_of_instants(rt: HostRuntime) -> Result<(), Fail> {
     for (digits, instant) in &TIMES {
-        assert_eq!(rt; read_timestamp(digits), Some(*instant), "{}", *instant);
+        assert_eq!(rt; read_timestamp(digits), Some(*instant), "{instant}");
         let Some(written) = write_timestamp(*instant) else {
             return Err(Fail::new("not written"));
         };
-        assert!(rt; &written[..] == *digits, "{}", *instant);
+        assert!(rt; &written[..] == *digits, "{instant}");
     }
     assert!(rt;
         write_timestamp(253_402_300_800_000).is_none() && write_timestamp(u64::MAX).is_none()
@@ -65,6 +65,6 @@ const NO_TIMES: [&'static [u8]; 19] = [
 #[test]
 fn bytes_that_are_no_instant(rt: HostRuntime) {
     for (i, digits) in NO_TIMES.iter().enumerate() {
-        assert_eq!(rt; read_timestamp(digits), None, "{}", i);
+        assert_eq!(rt; read_timestamp(digits), None, "{i}");
     }
 }
