@@ -1,5 +1,7 @@
 // Timestamps of 17 digits, YYYYMMDDHHmmSSfff: UTC, Gregorian, from 1970 to 9999, with no leap seconds; and the instants
 // that they say, which are milliseconds since 1970 began.
+#![tactic(auto)]
+
 ghost use Rattle.std.specs.Prelude.{◌≡◌, ℕ, ◌≤◌, if◌then◌else◌, Some, None, MatchOption, nat_le};
 ghost use Rattle.calendar.specs.Calendar.{date_time_of, digits_of, instant_of, last_instant, SaysAlone, Unsaid};
 

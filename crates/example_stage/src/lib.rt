@@ -1,4 +1,6 @@
 // A stage of an operator's own, complete: a layer over any stage that turns away amounts below a least one.
+#![tactic(auto)]
+
 ghost use Rattle.std.specs.Prelude.{◌≡◌};
 ghost use Rattle.example_stage.specs.Least.{least_rule, Made};
 ghost use Rattle.std.proofs.Common.{rules};

@@ -1,5 +1,5 @@
 -- What each layer itself says to a transfer, and what it says over the stage below it. Assumes nothing.
-use Rattle.std.specs.Prelude.{◌≡◌, ℕ, ◌+◌, ◌-◌, ◌*◌, ◌/◌, ◌≤◌, min, cond, not, ◌&&◌, List, ◌==◌, nat_le, nat_lt, slice_index}
+use Rattle.std.specs.Prelude.{◌≡◌, ℕ, ◌+◌, ◌-◌, ◌*◌, ◌/◌, ◌≤◌, min, cond, ◌&&◌, List, ◌==◌, nat_le, nat_lt, slice_index}
 use Rattle.wire.specs.declared.code.RejectCode.{RejectCode}
 use Rattle.wire.specs.declared.code.RejectCode.TheVariants.{AmountTooLarge, InsufficientLiquidity, InsufficientSourceAmount, InsufficientTimeout}
 use Rattle.stage.specs.declared.transfer.Transfer.{Transfer}

@@ -10,7 +10,7 @@ use Rattle.stage.specs.Numbers.{among}
 use Rattle.stage.specs.Verdicts.{passes, NotLater}
 use Rattle.layers.specs.declared.own.Own.{Own}
 use Rattle.layers.specs.declared.own.Own.TheVariants.{Onward, Back}
-use Rattle.layers.specs.Layers.{over, Kept, rejects_own, with_amount, converted, rate_own}
+use Rattle.layers.specs.Layers.{over, Kept, rejects_own, with_amount, rate_own}
 
 later : (t u : Transfer) (v : Verdict) → u.expiry ≤ t.expiry → NotLater u v → NotLater t v
 later t u (Pass p) h k = omega arith

@@ -1,5 +1,7 @@
 // The layers of a stack: each makes a check of its own and hands the transfer, changed or not, to the stage below it,
 // which it holds by value. So any stack of them over any stage is a stage again.
+#![tactic(auto)]
+
 pub mod expiry;
 pub mod maximum;
 pub mod own;

@@ -8,7 +8,6 @@ use Rattle.wire.specs.declared.fault.Cause.TheVariants.{WrongType, WrongLength, 
 use Rattle.wire.specs.Reading.{At, Read, and_then, fails, determinant, forward}
 use Rattle.wire.specs.Writing.{determinant_of, field_bytes}
 use Rattle.wire.proofs.Written.{determinant-short}
-use Rattle.calendar.specs.Calendar.{digits_of}
 use Rattle.calendar.proofs.Timestamps.{one-timestamp}
 use Rattle.address.proofs.Split.{address-short}
 use Rattle.packet.specs.declared.value.Kind.{Kind}
@@ -18,7 +17,7 @@ use Rattle.packet.specs.Encoding.{type_byte, content_bytes, packet_bytes, WellFo
 use Rattle.packet.specs.Fields.{read_prepare, read_fulfill, read_reject}
 use Rattle.packet.specs.Readers.{read_kind, read_length, read_end, wholly, read_content, read_result, asked, read_as, valued}
 use Rattle.packet.specs.OneEncoding.{Bytes, OneEncoding}
-use Rattle.packet.proofs.Codec.{from, Front, Codec, split-then, same_ok, bytes_rest}
+use Rattle.packet.proofs.Codec.{from, Codec, split-then, same_ok, bytes_rest}
 use Rattle.packet.proofs.Parts.{determinant-codec, amount-long, code-long, trigger-short}
 use Rattle.packet.proofs.Contents.{prepare-codec, fulfill-codec, reject-codec}
 

@@ -1,4 +1,6 @@
 // The packets of Interledger: Prepare, Fulfill and Reject, read from lent bytes and written into a lent buffer.
+#![tactic(auto)]
+
 mod fields;
 pub mod reading;
 pub mod value;

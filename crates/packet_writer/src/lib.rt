@@ -1,3 +1,5 @@
 // Packets written into a buffer that the caller lends.
+#![tactic(auto)]
+
 pub mod unwritten;
 pub mod writing;

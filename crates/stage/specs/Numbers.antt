@@ -1,5 +1,5 @@
 -- Lists of numbers. Assumes nothing.
-use Rattle.std.specs.Prelude.{ℕ, Bool, true, false, cond, not, List, [], ◌∷◌, ◌==◌}
+use Rattle.std.specs.Prelude.{ℕ, Bool, true, false, cond, List, [], ◌∷◌, ◌==◌}
 
 abbrev pub among : List ℕ → ℕ → Bool
 among [] n = false

@@ -1,5 +1,7 @@
 // What every layer of a packet shares: how a fault is told, the reject codes, reading a lent packet from front to
 // back, and writing into a buffer that the caller lends.
+#![tactic(auto)]
+
 pub mod code;
 pub mod compare;
 pub mod fault;

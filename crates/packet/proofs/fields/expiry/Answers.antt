@@ -1,5 +1,4 @@
-use Rattle.std.proofs.Common.{arith, rules}
-use Rattle.std.proofs.lemmas.Bool.Decides.{nat_tests}
+use Rattle.std.proofs.Common.{rules}
 use Rattle.packet.specs.Fields.{read_expiry}
 use Rattle.packet.proofs.fields.expiry.Goals as goal
 

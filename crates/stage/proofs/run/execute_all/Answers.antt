@@ -1,4 +1,4 @@
-use Rattle.std.proofs.Common.{◌≡◌, ◌+◌, take, vec_items, sym, subst, arith, take_all}
+use Rattle.std.proofs.Common.{◌+◌, take, vec_items, sym, subst, arith, take_all}
 use Rattle.stage.specs.Runs.{Step, Run}
 use Rattle.stage.proofs.Executed.{run-next}
 use Rattle.stage.proofs.run.execute_all.Goals as goal

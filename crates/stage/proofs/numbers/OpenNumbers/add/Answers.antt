@@ -1,6 +1,5 @@
-use Rattle.std.proofs.Common.{◌≡◌, ◌+◌, ◌<◌, true, length, take, set, ◌∙◌, arith}
-use Rattle.std.proofs.lemmas.List.{take_more_set, length-set, length-take-le}
-use Rattle.stage.specs.Numbers.{none_twice}
+use Rattle.std.proofs.Common.{◌<◌, length, take, arith}
+use Rattle.std.proofs.lemmas.List.{take_more_set, length-take-le}
 use Rattle.stage.proofs.OpenLists.{once-push}
 use Rattle.stage.proofs.numbers.OpenNumbers.add.Goals as goal
 
