@@ -2,6 +2,7 @@
 use routing::route::Route;
 use routing::table::Routes;
 use std::alloc::{AllocError, Global};
+use std::fmt::Display;
 use std::process::Abort;
 use std::test::Fail;
 
@@ -17,13 +18,14 @@ fn check_refused(
     heap: Global,
     accounts: u8,
     routes: &[Route<'_>],
+    case: &impl Display,
 ) -> Result<(), Fail> {
     match Routes::new(heap, accounts, routes) {
-        Ok(_) => Err(Fail::new("made")),
+        Ok(_) => Err(Fail::new(format_args!("{case}: made"))),
         Err(why) => {
-            assert_eq!(rt; why.number(), 8);
+            assert_eq!(rt; why.number(), 8, "{case}");
             Ok(())
-        },
+        }
     }
 }
 
@@ -121,7 +123,7 @@ fn thirty_two_routes_at_most(rt: HostRuntime) -> Result<(), Fail> {
     assert_eq!(rt; table.find(b"g.A.x"), Some(0), "the first");
     assert_eq!(rt; table.find(b"g.f.x"), Some(7), "the 32nd");
     assert_eq!(rt; table.find(b"g.g.x"), None, "the 33rd");
-    check_refused(&rt, rt.alloc(), 8, &all)
+    check_refused(&rt, rt.alloc(), 8, &all, &"33 routes")
 }
 
 // 65 bytes.
@@ -148,6 +150,7 @@ fn prefixes_of_sixty_four_bytes_at_most(rt: HostRuntime) -> Result<(), Fail> {
             prefix: &LONG,
             account: 5,
         }],
+        &"65 bytes",
     )
 }
 
@@ -158,7 +161,7 @@ const NO_PREFIXES: [&'static [u8]; 8] = [
 #[test]
 fn malformed_prefixes_are_refused(rt: HostRuntime) -> Result<(), Fail> {
     for (i, prefix) in NO_PREFIXES.iter().enumerate() {
-        check_refused(&rt, rt.alloc(), 8, &[Route { prefix, account: 0 }]).note(i)?;
+        check_refused(&rt, rt.alloc(), 8, &[Route { prefix, account: 0 }], &i)?;
     }
     Ok(())
 }
@@ -182,8 +185,8 @@ fn accounts_at_their_bound(rt: HostRuntime) -> Result<(), Fail> {
             prefix: b"g",
             account: 3,
         }],
-    )
-    .note("one too high")?;
+        &"one too high",
+    )?;
     check_refused(
         &rt,
         rt.alloc(),
@@ -192,8 +195,8 @@ fn accounts_at_their_bound(rt: HostRuntime) -> Result<(), Fail> {
             prefix: b"g",
             account: 0,
         }],
+        &"no accounts",
     )
-    .note("no accounts")
 }
 
 #[test]
@@ -212,8 +215,20 @@ fn no_prefix_twice(rt: HostRuntime) -> Result<(), Fail> {
                 account: 1,
             },
         ],
+        &"empty",
+    )?;
+    check_refused(
+        &rt,
+        rt.alloc(),
+        8,
+        &[NESTED[0], NESTED[2], NESTED[0]],
+        &"first and last",
+    )?;
+    check_refused(
+        &rt,
+        rt.alloc(),
+        8,
+        &[NESTED[2], NESTED[1], NESTED[1]],
+        &"the last two",
     )
-    .note("empty")?;
-    check_refused(&rt, rt.alloc(), 8, &[NESTED[0], NESTED[2], NESTED[0]]).note("first and last")?;
-    check_refused(&rt, rt.alloc(), 8, &[NESTED[2], NESTED[1], NESTED[1]]).note("the last two")
 }
