@@ -1,6 +1,6 @@
 -- The months of a year add up to it, and the month that a day of the year falls in.
 use Rattle.std.proofs.Common.{◌≡◌, ℕ, ◌+◌, ◌-◌, ◌<◌, ◌≤◌, true, false, cond, [], ◌∷◌, get_or, sym, refl, ap, ◌∙◌, arith, rules}
-use Rattle.std.specs.List.{AllByRecursion as All}
+use Rattle.std.specs.List.{AllByRecursion}
 use Rattle.std.proofs.ByRecursion.{All-get_or}
 use Rattle.calendar.specs.Calendar.{days_before_month, leap, month_and_day, month_length, month_lengths, total, year_length}
 use Rattle.calendar.proofs.Counting.{counted, place, Place, total-apart, total-more}
@@ -11,9 +11,9 @@ whole-year y =
     elim (leap y) as (λ b. total (λ m. get_or (31 ∷ cond b 29 28 ∷ 31 ∷ 30 ∷ 31 ∷ 30 ∷ 31 ∷ 31 ∷ 30 ∷ 31 ∷ 30 ∷ 31 ∷ []) (m - 1) 0) 1 12 ≡ cond b 366 365)
     [ true ↦ refl | false ↦ refl ]
 
-each-small : (y : ℕ) → All (λ x. x ≤ 31) (month_lengths y)
+each-small : (y : ℕ) → AllByRecursion (λ x. x ≤ 31) (month_lengths y)
 each-small y =
-    elim (leap y) as (λ b. All (λ x. x ≤ 31) (31 ∷ cond b 29 28 ∷ 31 ∷ 30 ∷ 31 ∷ 30 ∷ 31 ∷ 31 ∷ 30 ∷ 31 ∷ 30 ∷ 31 ∷ []))
+    elim (leap y) as (λ b. AllByRecursion (λ x. x ≤ 31) (31 ∷ cond b 29 28 ∷ 31 ∷ 30 ∷ 31 ∷ 30 ∷ 31 ∷ 31 ∷ 30 ∷ 31 ∷ 30 ∷ 31 ∷ []))
     [ true ↦ search rules | false ↦ search rules ]
 
 pub month-small : (y m : ℕ) → 1 ≤ m → m ≤ 12 → month_length y m ≤ 31
