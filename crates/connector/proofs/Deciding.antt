@@ -1,5 +1,5 @@
 -- What is decided of a Prepare, by the tests that the code makes.
-use Rattle.std.proofs.Common.{◌≡◌, ℕ, ◌+◌, ◌<◌, ◌≤◌, Bool, true, false, cond, not, ◌&&◌, eqb, leb, List, ◌++◌, length, take, is_some, Some, None, Ok, Err, Option, sym, refl, ap, ◌∙◌, subst, arith}
+use Rattle.std.proofs.Common.{◌≡◌, ℕ, ◌+◌, ◌<◌, ◌≤◌, true, false, cond, not, leb, List, ◌++◌, length, take, is_some, Some, Ok, Option, sym, ap, ◌∙◌, arith}
 use Rattle.std.proofs.lemmas.List.{take_all, take_at}
 use Rattle.std.specs.Bool.{then_some}
 use Rattle.std.proofs.lemmas.Bool.{le-leb, lt-leb, and_from, ne_eqb}
@@ -9,15 +9,13 @@ use Rattle.stage.specs.declared.accounts.AccountPair.{AccountPair}
 use Rattle.stage.specs.declared.transfer.Transfer.{Transfer}
 use Rattle.stage.specs.declared.transfer.Passed.{Passed}
 use Rattle.stage.specs.declared.transfer.Verdict.{Verdict}
-use Rattle.stage.specs.declared.transfer.Verdict.TheVariants.{Pass, Reject}
-use Rattle.accounts.specs.Figures.{can_hold_in, can_hold_out, can_hold}
+use Rattle.accounts.specs.Figures.{can_hold_in, can_hold_out}
 use Rattle.pending.specs.Tables.{is_full}
 use Rattle.ledger.specs.Books.{Books, has_number, can_reserve, next_row, admitted}
 use Rattle.ledger.specs.declared.reservation.Reservation.{Reservation}
 use Rattle.routing.specs.Routes.{route_for}
 use Rattle.protocol.specs.Pairs.{pair_of}
 use Rattle.protocol.specs.Outcomes.{SetUp, Outcome, forwarded}
-use Rattle.protocol.specs.Calls
 use Rattle.protocol.specs.Calls.{offered, plain_reject, by_prepare, by_route, by_pair, by_verdict, reservation_for}
 
 module _ (look : Transfer → Verdict) (s : SetUp) (b : Books) (a q : ℕ) (p : PrepareValue) where

@@ -1,5 +1,5 @@
 -- How an answer ends a row, by the tests that the code makes.
-use Rattle.std.proofs.Common.{◌≡◌, ℕ, ◌+◌, ◌<◌, ◌≤◌, Bool, true, false, cond, ltb, List, length, Ok, Err, Result, sym, refl, ap, ◌∙◌, subst, arith}
+use Rattle.std.proofs.Common.{◌≡◌, ℕ, ◌<◌, ◌≤◌, Bool, true, false, cond, List, length, Ok, Err, Result, sym, refl, ap, ◌∙◌, arith}
 use Rattle.std.proofs.lemmas.List.{length-append}
 use Rattle.wire.specs.declared.fault.Fault.{Fault}
 use Rattle.wire.specs.Writing.{determinant_of}
@@ -11,14 +11,14 @@ use Rattle.packet.specs.Readers.{read_as, answer_kind, prepare_kind, prepare_val
 use Rattle.packet.proofs.Packets.{content-short}
 use Rattle.connector.specs.Endings.{answered_by}
 use Rattle.std.specs.Str.{bytes_eq}
-use Rattle.std.proofs.lemmas.Bool.{lt-ltb, cases_Bool, true≢false}
+use Rattle.std.proofs.lemmas.Bool.{lt-ltb}
 use Rattle.std.proofs.lemmas.Slice.Eq.{bytes_eq-Decides}
 use Rattle.wire.specs.declared.code.RejectCode.TheVariants as code
 use Rattle.packet.specs.Values.{FulfillValue, PacketValue, PrepareValue, answer_of, prepare_of}
 use Rattle.packet.specs.declared.value.Prepare.{Prepare}
 use Rattle.pending.specs.declared.row.Pending.{Pending}
 use Rattle.protocol.specs.Messages.{Answered, fulfilled, only_answer, answer_in, only_prepare, prepare_in}
-use Rattle.protocol.specs.Outcomes.{Ending, paid, ours}
+use Rattle.protocol.specs.Outcomes.{paid, ours}
 use Rattle.protocol.specs.Calls.{ending_by}
 
 -- what a reader of answers gives is what the bytes say

@@ -1,5 +1,5 @@
 -- How a call turns out, by the tests that its code makes.
-use Rattle.std.proofs.Common.{◌≡◌, ℕ, ◌<◌, ◌≤◌, Bool, true, false, cond, ◌&&◌, eqb, ltb, List, [], ◌∷◌, ◌++◌, length, Some, None, Ok, Err, Option, Result, sym, refl, ap, ◌∙◌, subst, arith}
+use Rattle.std.proofs.Common.{◌≡◌, ℕ, ◌<◌, ◌≤◌, true, false, cond, ◌&&◌, eqb, ltb, List, Some, None, Option, Result, sym, refl, ap, ◌∙◌, subst}
 use Rattle.std.proofs.lemmas.Bool.{lt-ltb, le-ltb}
 use Rattle.wire.specs.declared.code.RejectCode.TheVariants as code
 use Rattle.calendar.specs.Calendar.{last_instant}
@@ -14,10 +14,10 @@ use Rattle.stage.specs.declared.transfer.Transfer.{Transfer}
 use Rattle.stage.specs.declared.transfer.Verdict.{Verdict}
 use Rattle.protocol.specs.declared.refusal.Refusal.{Refusal}
 use Rattle.protocol.specs.declared.refusal.Refusal.TheVariants as refusal
-use Rattle.protocol.specs.Outcomes.{SetUp, Reply, refused, Outcome, refuses, marks, ends, ends_none, ours}
+use Rattle.protocol.specs.Outcomes.{SetUp, Reply, refused, Outcome, refuses, marks, ends, ours}
 use Rattle.protocol.specs.Calls
 use Rattle.protocol.specs.Calls.{room_needed, time_at, by_prepare, prepare_outcome, sent_outcome, unsent_outcome, answer_outcome, tick_outcome}
-use Rattle.protocol.specs.Turns.{TurnsOut, StackAfter}
+use Rattle.protocol.specs.Turns.{TurnsOut}
 
 module _ {St : Type 0} (held : St → List ℕ) where
   -- a call that turns out so turns out as what it comes to

@@ -1,5 +1,5 @@
 -- What is decided of a Prepare, as an outcome, and what a decision to forward it rests on. Assumes nothing.
-use Rattle.std.specs.Prelude.{◌≡◌, ℕ, ◌+◌, true, Some, None, Ok, Err, Result}
+use Rattle.std.specs.Prelude.{◌≡◌, ℕ, ◌+◌, true, None, Ok, Err, Result}
 use Rattle.wire.specs.declared.code.RejectCode.{RejectCode}
 use Rattle.stage.specs.declared.transfer.Transfer.{Transfer}
 use Rattle.stage.specs.declared.transfer.Rejected.{Rejected}

@@ -1,5 +1,5 @@
 -- Each run turns out as it is written down.
-use Rattle.std.proofs.Common.{◌≡◌, refl}
+use Rattle.std.proofs.Common.{refl}
 use Rattle.wire.specs.Reading.{forward, determinant, field}
 use Rattle.wire.specs.Writing.{determinant_of}
 use Rattle.calendar.specs.Calendar.{year_length, total, days_before_year, days_before_month, count_off, year_and_day, month_and_day, valid_date, valid_time, day_number, instant_at, date_time_of, all_digits, fields_of, written, is_timestamp, instant_of, digits_of}

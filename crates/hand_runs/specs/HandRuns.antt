@@ -2,12 +2,10 @@
 -- those of the manual's rules, worked out on paper. Assumes nothing.
 use Rattle.std.specs.Prelude.{◌≡◌, ℕ, List, [], ◌∷◌, ◌++◌, map, replicate, ℤ, pos, neg_ℤ, codes}
 use Rattle.accounts.specs.declared.figures.Figures.{Figures}
-use Rattle.accounts.specs.declared.limits.Limits.{Limits}
 use Rattle.condition.specs.Practice.{practice}
-use Rattle.ledger.specs.Books.{Books, new_books}
-use Rattle.routing.specs.Routes.{RouteValue}
+use Rattle.ledger.specs.Books.{new_books}
 use Rattle.protocol.specs.Outcomes.{SetUp}
-use Rattle.protocol.specs.Sheet.{Call, prepare, sent, unsent, answer, tick, settle, Sheet, sheet}
+use Rattle.protocol.specs.Sheet.{Call, prepare, sent, unsent, answer, tick, settle, sheet}
 use Rattle.hand_runs.specs.Played.{State, play, Short, no, code, paid, went, done, none, owes, told}
 
 -- two peers: what begins with g.a goes to account 0, which may owe us 1,000, and what begins with g.b to account 1, which we

@@ -1,12 +1,11 @@
 -- Calls played one after the other by the definitions of their outcomes, over a plain stack: a list of numbers that passes
 -- every transfer at half its amount, one second before its expiry. Assumes nothing.
-use Rattle.std.specs.Prelude.{ℕ, ◌+◌, ◌-◌, ◌/◌, Bool, true, false, cond, List, [], ◌∷◌, ◌++◌, length, take, ℤ, Some, None, Ok, Err, Option, Result}
+use Rattle.std.specs.Prelude.{ℕ, ◌-◌, ◌/◌, List, [], ◌∷◌, ◌++◌, ℤ, Ok, Err, Result}
 use Rattle.wire.specs.declared.fault.Fault.{Fault}
 use Rattle.condition.specs.Practice.{practice}
-use Rattle.packet.specs.Values.{RejectValue}
 use Rattle.stage.specs.declared.transfer.Transfer.{Transfer}
 use Rattle.stage.specs.declared.transfer.Verdict.{Verdict}
-use Rattle.stage.specs.declared.transfer.Verdict.TheVariants.{Pass, Reject}
+use Rattle.stage.specs.declared.transfer.Verdict.TheVariants.{Pass}
 use Rattle.stage.specs.Numbers.{without}
 use Rattle.ledger.specs.Books.{Books}
 use Rattle.protocol.specs.Refusals.{refusal_number}

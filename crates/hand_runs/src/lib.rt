@@ -1,4 +1,6 @@
 // Runs written down by hand, and what the definitions of the calls and of the sheet make of them.
+#![tactic(auto)]
+
 ghost use Rattle.std.specs.Prelude.{◌≡◌};
 ghost use Rattle.hand_runs.specs.HandRuns.{HandWrittenRuns};
 

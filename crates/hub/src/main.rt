@@ -1,4 +1,6 @@
 // The hub: reads one packet from standard input and prints a statement of it.
+#![tactic(auto)]
+
 ghost use Rattle.std.specs.Prelude.{◌≤◌, length, IfOk};
 
 mod statement;

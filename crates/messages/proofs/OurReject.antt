@@ -1,12 +1,12 @@
 -- The parts of a Reject of our own make it.
-use Rattle.std.proofs.Common.{◌≡◌, ℕ, ◌≤◌, Bool, true, false, cond, List, [], ◌++◌, length, take, codes, sym, refl, ap, ◌∙◌, subst, arith}
+use Rattle.std.proofs.Common.{◌≡◌, ℕ, Bool, true, false, cond, List, [], ◌++◌, length, take, codes, refl, ap, ◌∙◌, arith}
 use Rattle.std.specs.Str.{bytes_eq}
-use Rattle.std.proofs.lemmas.List.{length-append, take_all}
+use Rattle.std.proofs.lemmas.List.{take_all}
 use Rattle.wire.specs.declared.code.RejectCode.{RejectCode}
 use Rattle.wire.specs.Codes.{code_bytes}
 use Rattle.packet.specs.Values.{RejectValue, reject}
 use Rattle.packet.specs.Encoding.{amount_bytes, packet_bytes}
-use Rattle.protocol.specs.Messages.{our_reject, our_bytes}
+use Rattle.protocol.specs.Messages.{our_bytes}
 
 sixteen : (x y : ℕ) → length (amount_bytes x ++ amount_bytes y) ≡ 16
 unfolding amount_bytes

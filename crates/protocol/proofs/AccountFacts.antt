@@ -1,11 +1,11 @@
 -- An account that matches what is due, as amounts are held, freed, booked and settled.
-use Rattle.std.proofs.Common.{◌≡◌, ℕ, zero, suc, ◌+◌, ◌-◌, ◌^◌, ◌<◌, ◌≤◌, Bool, true, false, cond, ◌&&◌, eqb, ◌⊎◌, List, [], ◌∷◌, ◌++◌, length, get_or, set, ℤ, pos, ◌+ℤ◌, ◌-ℤ◌, neg_ℤ, ◌≤ℤ◌, Some, sym, refl, ap, ◌∙◌, subst, inl, inr, ⊎_elim, arith}
+use Rattle.std.proofs.Common.{◌≡◌, ℕ, ◌+◌, ◌^◌, ◌<◌, Bool, true, false, cond, eqb, List, [], ◌∷◌, ◌++◌, length, get_or, ℤ, pos, ◌+ℤ◌, ◌-ℤ◌, neg_ℤ, ◌≤ℤ◌, Some, sym, refl, ap, ◌∙◌, subst, ⊎_elim, arith}
 use lib.Signed.{le_z}
 use Rattle.std.proofs.lemmas.Int.{ints}
 use Rattle.std.proofs.lemmas.List.{get_or-set_same, get_or-set_other, length-set}
 use Rattle.std.proofs.lemmas.Bool.{eqb-true, eq-eqb, ne_eqb, cases_eq, and_parts}
 use Rattle.accounts.specs.declared.figures.Figures.{Figures}
-use Rattle.accounts.specs.Figures.{unset, most_limit, adjust, within, takes_in, takes_out, hold_in, hold_out, with_balance, end_in, end_out, held, ended, settled_balance, can_settle}
+use Rattle.accounts.specs.Figures.{unset, adjust, within, takes_in, takes_out, hold_in, hold_out, with_balance, end_in, end_out, held, ended, settled_balance, can_settle}
 use Rattle.pending.specs.declared.row.Pending.{Pending}
 use Rattle.pending.specs.Rows.{lookup, dropped}
 use Rattle.ledger.specs.Sums.{in_at, out_at, sum_in, sum_out}

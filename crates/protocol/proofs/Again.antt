@@ -1,5 +1,5 @@
 -- What a connector writes is read again as what it wrote.
-use Rattle.std.proofs.Common.{◌≡◌, ℕ, ◌+◌, ◌^◌, ◌<◌, ◌≤◌, Bool, true, false, cond, ◌||◌, eqb, List, [], ◌∷◌, ◌++◌, length, Ok, Err, codes, Result, sym, refl, ap, ◌∙◌, subst, arith}
+use Rattle.std.proofs.Common.{◌≡◌, ℕ, ◌^◌, ◌<◌, ◌≤◌, Bool, true, false, cond, eqb, List, [], ◌++◌, length, Ok, Err, codes, Result, refl, ap, arith}
 use Rattle.std.specs.Str.{bytes_eq}
 use Rattle.std.proofs.lemmas.List.{length-append}
 use Rattle.std.proofs.lemmas.Bool.{or_right}
@@ -8,12 +8,12 @@ use Rattle.wire.specs.declared.code.RejectCode.{RejectCode}
 use Rattle.wire.specs.declared.code.RejectCode.TheVariants as code
 use Rattle.wire.specs.Codes.{code_bytes, is_code}
 use Rattle.address.specs.Addresses.{is_address}
-use Rattle.packet.specs.Values.{PrepareValue, FulfillValue, RejectValue, PacketValue, prepare, fulfill, reject}
-use Rattle.packet.specs.Encoding.{amount_bytes, packet_bytes, PrepareFits, RejectFits}
+use Rattle.packet.specs.Values.{PrepareValue, PacketValue, prepare, fulfill, reject}
+use Rattle.packet.specs.Encoding.{amount_bytes, PrepareFits, RejectFits}
 use Rattle.packet.specs.Readers.{read_as, prepare_kind, answer_kind}
 use Rattle.packet.specs.OneEncoding.{Bytes}
 use Rattle.packet.proofs.Packets.{one-encoding}
-use Rattle.protocol.specs.Messages.{only_prepare, prepare_in, Answered, fulfilled, declined, only_answer, answer_in, onward, forwarded_bytes, our_reject, our_bytes}
+use Rattle.protocol.specs.Messages.{only_prepare, prepare_in, declined, only_answer, answer_in, onward, forwarded_bytes, our_reject, our_bytes}
 
 was-prepare : (x : Result PacketValue Fault) (p : PrepareValue) → only_prepare x ≡ Ok p → x ≡ Ok (prepare p)
 was-prepare (Ok (prepare q)) p e = let g : q ≡ p = cc in ap (λ v. Ok (prepare v)) g

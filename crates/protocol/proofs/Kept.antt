@@ -1,13 +1,13 @@
 -- What is kept from call to call, in terms of the books alone.
-use Rattle.std.proofs.Common.{◌≡◌, ℕ, ◌+◌, ◌-◌, ◌<◌, ◌≤◌, Bool, true, false, cond, ◌⊎◌, List, [], ◌∷◌, ◌++◌, length, get_or, ℤ, Some, None, Ok, Option, sym, refl, ap, ◌∙◌, subst, inl, inr, ⊎_elim, arith}
+use Rattle.std.proofs.Common.{◌≡◌, ℕ, ◌+◌, ◌<◌, ◌≤◌, ◌⊎◌, List, ◌∷◌, length, ℤ, Some, None, Option, sym, refl, ap, ◌∙◌, subst, inl, inr, arith}
 use Rattle.std.specs.List.{AllByRecursion}
 use Rattle.packet.specs.Values.{PrepareValue}
 use Rattle.pending.specs.declared.row.Pending.{Pending}
 use Rattle.pending.specs.Rows.{lookup, as_sent}
 use Rattle.ledger.specs.Sums.{total, sum_in, sum_out}
-use Rattle.ledger.specs.Books.{Books, figures_at}
+use Rattle.ledger.specs.Books.{Books}
 use Rattle.ledger.proofs.RowLaws.{lookup-number}
-use Rattle.protocol.specs.Outcomes.{SetUp, Reply, forwarded}
+use Rattle.protocol.specs.Outcomes.{SetUp, forwarded}
 use Rattle.protocol.specs.Sheet.{Event, event, prepare, Sheet, sheet, with-event, decided, hits, times_ended, time_of}
 use Rattle.protocol.specs.Runs.{numbers_of, Among, Forwarding, StandsFor, PendingUntilDecided, Origin, RecordsMatch, BalancesMatch, DecidedRight, AFulfilmentNeedsTheSecretInTime, Promise}
 use Rattle.protocol.proofs.RowFacts.{numbered, given, given-one, counted_none, counted-some, all_found}

@@ -1,5 +1,5 @@
 -- What is kept by each way in which a call turns out.
-use Rattle.std.proofs.Common.{◌≡◌, ℕ, ◌+◌, ◌-◌, ◌^◌, ◌<◌, ◌≤◌, max, Bool, true, false, cond, ◌&&◌, eqb, ltb, leb, ◌⊎◌, List, [], ◌∷◌, ◌++◌, length, get_or, ℤ, pos, ◌+ℤ◌, ◌-ℤ◌, Some, None, Ok, Err, Option, Result, sym, refl, ap, ◌∙◌, subst, inl, inr, ⊎_elim, arith}
+use Rattle.std.proofs.Common.{◌≡◌, ℕ, ◌+◌, ◌^◌, ◌<◌, ◌≤◌, Bool, true, false, cond, ◌&&◌, ltb, List, [], ◌∷◌, ◌++◌, length, ℤ, Some, None, Ok, Option, sym, refl, ap, ◌∙◌, subst, inl, arith}
 use Rattle.std.specs.List.{AllByRecursion}
 use Rattle.std.specs.Str.{bytes_eq}
 use Rattle.std.proofs.lemmas.List.{map_push}
@@ -16,22 +16,22 @@ use Rattle.stage.specs.declared.accounts.AccountPair.{AccountPair}
 use Rattle.stage.specs.declared.transfer.Transfer.{Transfer}
 use Rattle.stage.specs.declared.transfer.Passed.{Passed}
 use Rattle.stage.specs.declared.transfer.Verdict.{Verdict}
-use Rattle.stage.specs.declared.transfer.Verdict.TheVariants.{Pass, Reject}
-use Rattle.stage.specs.Numbers.{among, none_twice, without}
+use Rattle.stage.specs.declared.transfer.Verdict.TheVariants.{Pass}
+use Rattle.stage.specs.Numbers.{none_twice, without}
 use Rattle.stage.specs.Verdicts.{NotLater}
-use Rattle.accounts.specs.Figures.{unset, is_set_up, takes_in, takes_out, can_hold_in, can_hold_out, can_settle, settled_balance}
+use Rattle.accounts.specs.Figures.{is_set_up, takes_out, can_hold_in, can_hold_out, can_settle, settled_balance}
 use Rattle.pending.specs.declared.row.Pending.{Pending}
-use Rattle.pending.specs.Rows.{lookup, dropped, as_sent, marked, due}
+use Rattle.pending.specs.Rows.{lookup, dropped, marked, due}
 use Rattle.ledger.specs.Sums.{total, sum_in, sum_out, in_at, out_at}
 use Rattle.ledger.specs.Books.{Books, figures_at, next_row, rebalanced}
 use Rattle.ledger.proofs.RowLaws.{lookup-number, total-push, total-dropped, total-marked}
 use Rattle.protocol.specs.declared.refusal.Refusal.{Refusal}
 use Rattle.protocol.specs.Messages.{prepare_in, Answered, fulfilled, declined, answer_in, onward, forwarded_bytes, our_bytes}
-use Rattle.protocol.specs.Outcomes.{SetUp, Reply, refused, rejected, forwarded, noted, ended, none_due, balance, Ending, paid, passed_on, ours, is_paid, Outcome, refuses, rejects, forwards, marks, ends, ends_none, settles}
+use Rattle.protocol.specs.Outcomes.{SetUp, Reply, refused, noted, none_due, balance, Ending, paid, passed_on, ours, is_paid, rejects, forwards, marks, ends, ends_none}
 use Rattle.protocol.specs.Calls.{time_at, offered, reservation_for, ending_by}
-use Rattle.protocol.specs.Turns.{books_after, ending_bytes, written, reply_of, StackAfter}
-use Rattle.protocol.specs.Sheet.{Call, prepare, sent, unsent, answer, tick, settle, Event, event, Sheet, sheet, sent_to, time_of, with-event, decided, hits, changed, moved, pays, fulfils, with_time, with_rows, with_balances, remove, add_row, pay_if}
-use Rattle.protocol.specs.Runs.{numbers_of, Among, Forwarding, StandsFor, Origin, AccountMatches, Fulfilling, DecidedRight, answer_reject, due_reject}
+use Rattle.protocol.specs.Turns.{books_after, ending_bytes, written, reply_of}
+use Rattle.protocol.specs.Sheet.{Call, prepare, sent, unsent, answer, tick, settle, Event, event, Sheet, sent_to, time_of, with-event, decided, changed, moved, pays, fulfils, with_time, with_rows, with_balances, remove, add_row, pay_if}
+use Rattle.protocol.specs.Runs.{numbers_of, Forwarding, Origin, AccountMatches, Fulfilling, DecidedRight, answer_reject, due_reject}
 use Rattle.protocol.proofs.RowFacts.{numbers-marked, numbers-dropped, due-found, all-dropped, all-marked, all_found, numbered, given, given-more}
 use Rattle.protocol.proofs.AccountFacts.{EachMatches, accounts-hold, accounts-end, accounts-settle, small-enough}
 use Rattle.protocol.proofs.Again.{onward-again, ours-again}

@@ -1,10 +1,9 @@
 -- Every run of a connector keeps the promise.
-use Rattle.std.proofs.Common.{◌≡◌, ℕ, zero, suc, ◌+◌, ◌<◌, ◌≤◌, max, Bool, true, false, cond, ◌&&◌, eqb, ltb, leb, ◌⊎◌, List, [], ◌∷◌, ◌++◌, map, length, get_or, take, drop, ℤ, pos, ◌+ℤ◌, ◌-ℤ◌, neg_ℤ, ◌≤ℤ◌, Some, None, Ok, Err, Option, Result, sym, refl, ap, ◌∙◌, subst, inl, inr, arith}
+use Rattle.std.proofs.Common.{◌≡◌, ℕ, zero, suc, ◌<◌, ◌≤◌, Bool, true, false, cond, ◌&&◌, eqb, ltb, leb, List, [], ◌∷◌, ◌++◌, length, get_or, take, drop, pos, Some, None, Ok, Err, Option, Result, sym, refl, ap, ◌∙◌, subst, arith}
 use lib.Seq.{take-append_seam}
 use Rattle.std.proofs.lemmas.Int.{ints}
 use Rattle.std.proofs.lemmas.Bool.Decides.{nat_tests}
 use Rattle.std.proofs.lemmas.Bool.{and_parts}
-use Rattle.std.specs.List.{AllByRecursion}
 use Rattle.wire.specs.declared.fault.Fault.{Fault}
 use Rattle.wire.specs.declared.code.RejectCode.{RejectCode}
 use Rattle.wire.specs.declared.code.RejectCode.TheVariants as code
@@ -27,7 +26,6 @@ use Rattle.pending.specs.Rows.{lookup, due}
 use Rattle.pending.specs.Tables.{is_full}
 use Rattle.ledger.specs.declared.refusal.NotSettled.TheVariants.{NoAccount, UnknownWay, LimitWouldBreak}
 use Rattle.ledger.specs.Books.{Books, figures_at, new_books, next_row, has_number}
-use Rattle.ledger.specs.Settling.{settlement}
 use Rattle.routing.specs.Routes.{route_for}
 use Rattle.protocol.specs.declared.refusal.Refusal.{Refusal}
 use Rattle.protocol.specs.declared.refusal.Refusal.TheVariants as refusal
@@ -38,9 +36,9 @@ use Rattle.protocol.specs.Calls
 use Rattle.protocol.specs.Calls.{time_at, room_needed, offered, reservation_for, plain_reject, prepare_outcome, sent_outcome, unsent_outcome, answer_outcome, tick_outcome, settle_outcome}
 use Rattle.protocol.specs.Turns.{books_after, written, reply_of, StackAfter, TurnsOut}
 use Rattle.protocol.specs.Sheet.{Call, prepare, sent, unsent, answer, tick, settle, Event, event, told, packet_in}
-use Rattle.protocol.specs.Runs.{numbers_of, Among, AccountMatches, NewConnector, Origin, Promise, Run, begun, prepared, sent-on, not-sent, answered, ticked, settled, AfterEveryPrefix, EveryRun}
+use Rattle.protocol.specs.Runs.{AccountMatches, NewConnector, Promise, Run, begun, prepared, sent-on, not-sent, answered, ticked, settled, EveryRun}
 use Rattle.protocol.proofs.RowFacts.{given-none}
-use Rattle.protocol.proofs.Kept.{shown, Kept, Numbered, promised}
+use Rattle.protocol.proofs.Kept.{Kept, promised}
 use Rattle.protocol.proofs.Leaves.{by-refusal, by-reject, by-none, by-settling, by-mark, by-unsent, by-tick, by_answer, by-forward}
 
 -- by the test of a cond

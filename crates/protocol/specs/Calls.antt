@@ -1,6 +1,6 @@
 -- How each call turns out: what is refused first, what a Prepare is rejected for, and what happens else. Each is a chain of
 -- tests in the order of the rules. Assumes nothing.
-use Rattle.std.specs.Prelude.{ℕ, ◌+◌, max, Bool, cond, ◌&&◌, List, ℤ, Some, None, Ok, Err, Option, Result, ◌==◌, nat_le, nat_lt}
+use Rattle.std.specs.Prelude.{ℕ, ◌+◌, max, cond, ◌&&◌, List, ℤ, Some, None, Ok, Err, Option, Result, ◌==◌, nat_le, nat_lt}
 use Rattle.std.specs.Str.{bytes_eq}
 use Rattle.wire.specs.declared.fault.Fault.{Fault}
 use Rattle.wire.specs.declared.code.RejectCode.TheVariants as code
@@ -20,7 +20,6 @@ use Rattle.ledger.specs.declared.reservation.Reservation.{Reservation}
 use Rattle.ledger.specs.Books.{Books, next_row, has_number}
 use Rattle.ledger.specs.Settling.{settlement}
 use Rattle.routing.specs.Routes.{route_for}
-use Rattle.protocol.specs.declared.refusal.Refusal.{Refusal}
 use Rattle.protocol.specs.declared.refusal.Refusal.TheVariants as refusal
 use Rattle.protocol.specs.Refusals.{settling_refusal}
 use Rattle.protocol.specs.Pairs.{pair_of}

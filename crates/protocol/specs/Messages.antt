@@ -1,5 +1,5 @@
 -- The packets that a connector's calls read and write. Assumes nothing.
-use Rattle.std.specs.Prelude.{ℕ, Bool, cond, List, [], ◌++◌, Ok, Err, codes, Result}
+use Rattle.std.specs.Prelude.{ℕ, cond, List, [], ◌++◌, Ok, Err, codes, Result}
 use Rattle.std.specs.Str.{bytes_eq}
 use Rattle.wire.specs.declared.fault.Fault.{Fault}
 use Rattle.wire.specs.declared.fault.Layer.TheVariants.{Wrapper}

@@ -1,6 +1,5 @@
 -- Runs of a connector, and what every run keeps. Assumes nothing.
-use Rattle.std.specs.Prelude.{◌≡◌, ℕ, ◌+◌, ◌<◌, ◌≤◌, Bool, true, false, cond, ◌&&◌, ◌⊎◌, List, [], ◌∷◌, ◌++◌, map, length, ℤ, Some, None, Ok, Err, Option, Result, nat_lt}
-use Rattle.std.specs.List.{AllByRecursion}
+use Rattle.std.specs.Prelude.{◌≡◌, ℕ, ◌<◌, ◌≤◌, true, cond, ◌⊎◌, List, [], ◌∷◌, ◌++◌, map, length, ℤ, Some, None, Ok, Err, Result, nat_lt}
 use Rattle.wire.specs.declared.fault.Fault.{Fault}
 use Rattle.wire.specs.declared.code.RejectCode.TheVariants as code
 use Rattle.address.specs.Addresses.{is_address}
@@ -14,7 +13,7 @@ use Rattle.accounts.specs.Figures.{Keeps}
 use Rattle.accounts.specs.SetUps.{set_up_fits}
 use Rattle.pending.specs.declared.row.Pending.{Pending}
 use Rattle.pending.specs.Rows.{lookup}
-use Rattle.ledger.specs.Sums.{total, sum_in, sum_out}
+use Rattle.ledger.specs.Sums.{sum_in, sum_out}
 use Rattle.ledger.specs.Books.{Books, figures_at, new_books}
 use Rattle.routing.specs.Routes.{routes_fit}
 use Rattle.protocol.specs.Messages.{prepare_in, Answered, fulfilled, declined, answer_in, our_bytes}

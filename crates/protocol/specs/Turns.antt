@@ -1,11 +1,10 @@
 -- What an outcome answers, writes and leaves, said once for all calls; and the six calls, each by its relation. Assumes nothing.
-use Rattle.std.specs.Prelude.{◌≡◌, ℕ, Bool, true, false, List, [], ◌∷◌, ◌++◌, length, drop, None}
+use Rattle.std.specs.Prelude.{◌≡◌, ℕ, false, List, [], ◌∷◌, ◌++◌, length, drop}
 use Rattle.stage.specs.declared.transfer.Transfer.{Transfer}
 use Rattle.stage.specs.declared.transfer.Verdict.{Verdict}
 use Rattle.stage.specs.Numbers.{among, without}
 use Rattle.ledger.specs.Books.{Books, admitted, marked_at, closed, rebalanced}
 use Rattle.protocol.specs.declared.ended.Ended.{Ended}
-use Rattle.protocol.specs.declared.ended.Rejected.{Rejected}
 use Rattle.protocol.specs.Messages.{forwarded_bytes, our_bytes}
 use Rattle.protocol.specs.Outcomes.{SetUp, Reply, refused, rejected, forwarded, noted, ended, none_due, balance, Ending, paid, passed_on, ours, is_paid, Outcome, refuses, rejects, forwards, marks, ends, ends_none, settles}
 use Rattle.protocol.specs.Calls.{prepare_outcome, sent_outcome, unsent_outcome, answer_outcome, tick_outcome, settle_outcome}

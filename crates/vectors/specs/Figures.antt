@@ -3,7 +3,7 @@
 use Rattle.std.specs.Prelude.{◌≡◌, ℕ, List, [], ◌∷◌, Some, None, Ok, codes}
 use Rattle.wire.specs.declared.fault.Layer.TheVariants.{Wrapper, Field, Calendar}
 use Rattle.wire.specs.declared.fault.Cause.TheVariants.{BadDeterminant, CutDeterminant, CutShort, InvalidInstant}
-use Rattle.wire.specs.Reading.{At, at, fails, determinant}
+use Rattle.wire.specs.Reading.{at, fails, determinant}
 use Rattle.wire.specs.Writing.{determinant_of}
 use Rattle.calendar.specs.Calendar.{instant_of, digits_of}
 use Rattle.packet.specs.Fields.{read_expiry}

@@ -1,4 +1,4 @@
-use Rattle.std.proofs.Common.{◌≡◌, refl}
+use Rattle.std.proofs.Common.{refl}
 use Rattle.hand_runs.proofs.Played.{hand-written-runs}
 use Rattle.hand_runs.proofs.hand_written_runs.Goals as goal
 

@@ -1,5 +1,4 @@
-use Rattle.std.proofs.Common.{◌≡◌, ◌∙◌, arith}
-use Rattle.std.proofs.lemmas.List.{length-append}
+use Rattle.std.proofs.Common.{arith}
 use Rattle.wire.proofs.Written.{wrote_then, wrote_as, written}
 use Rattle.packet.specs.Encoding.{amount_bytes}
 use Rattle.messages.proofs.writing.two_numbers.Goals as goal

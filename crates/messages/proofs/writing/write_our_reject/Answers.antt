@@ -1,4 +1,4 @@
-use Rattle.std.proofs.Common.{◌≡◌, ℕ, List, subst}
+use Rattle.std.proofs.Common.{subst}
 use Rattle.wire.specs.Writing.{Written}
 use Rattle.messages.specs.Own.{own_bytes}
 use Rattle.messages.proofs.OurReject.{our-packet}

@@ -1,4 +1,4 @@
-use Rattle.std.proofs.Common.{◌≡◌, length, Ok, Err, sym, refl, ap, ◌∙◌, subst, arith}
+use Rattle.std.proofs.Common.{◌≡◌, length, Ok, Err, sym, refl, ap, ◌∙◌, arith}
 use Rattle.pending.specs.Rows.{lookup}
 use Rattle.ledger.specs.Books.{Books, closed}
 use Rattle.packet.specs.Values.{answer_of}

@@ -1,18 +1,18 @@
-use Rattle.std.proofs.Common.{◌≡◌, ℕ, ◌+◌, Bool, true, false, cond, Some, None, sym, refl, ap, ◌∙◌, subst, arith}
+use Rattle.std.proofs.Common.{◌≡◌, ℕ, ◌+◌, Bool, true, false, cond, Some, None, sym, refl, ap, ◌∙◌, arith}
 use Rattle.std.specs.Bool.{then_some}
 use Rattle.wire.specs.declared.code.RejectCode.TheVariants as code
 use Rattle.packet.specs.Values.{prepare_of}
 use Rattle.stage.specs.declared.transfer.Rejected.{Rejected}
 use Rattle.stage.specs.declared.transfer.Verdict.TheVariants.{Pass, Reject}
 use Rattle.accounts.specs.Figures.{can_hold_out}
-use Rattle.ledger.specs.Books.{Books, has_number, next_row}
-use Rattle.ledger.proofs.Same.{told-some, told_none}
+use Rattle.ledger.specs.Books.{has_number, next_row}
+use Rattle.ledger.proofs.Same.{told-some}
 use Rattle.protocol.specs.Messages.{onward}
-use Rattle.protocol.specs.Outcomes.{Outcome, rejects, forwards}
+use Rattle.protocol.specs.Outcomes.{rejects, forwards}
 use Rattle.protocol.specs.Calls.{reservation_for, plain_reject}
 use Rattle.connector.specs.Views.{books_of, set_up_of}
 use Rattle.connector.proofs.OnePair.{pair_is}
-use Rattle.connector.proofs.Deciding.{Clear, no_number, full, late, on-route, paired, no-credit-in, looked, offered-so, can-reserve}
+use Rattle.connector.proofs.Deciding.{no_number, full, late, on-route, paired, no-credit-in, looked, offered-so, can-reserve}
 use Rattle.connector.proofs.connector.Connector.decide.Goals as goal
 
 -- a reject by its parts

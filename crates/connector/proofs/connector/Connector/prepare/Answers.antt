@@ -1,16 +1,14 @@
-use Rattle.std.proofs.Common.{◌≡◌, ℕ, ◌+◌, List, [], ◌∷◌, ◌++◌, length, drop, Some, None, Ok, Err, Option, Result, sym, refl, ap, ◌∙◌, subst, arith}
+use Rattle.std.proofs.Common.{◌≡◌, ℕ, ◌+◌, [], ◌∷◌, ◌++◌, length, drop, Ok, Err, Option, Result, sym, refl, ap, ◌∙◌, subst, arith}
 use Rattle.wire.specs.declared.fault.Fault.{Fault}
-use Rattle.wire.specs.declared.code.RejectCode.TheVariants as code
 use Rattle.packet.specs.Values.{PrepareValue, prepare_of}
 use Rattle.stage.specs.declared.transfer.Transfer.{Transfer}
 use Rattle.stage.specs.declared.transfer.Rejected.{Rejected}
 use Rattle.stage.specs.declared.transfer.Verdict.{Verdict}
 use Rattle.ledger.specs.Books.{Books, advanced, admitted, next_row}
-use Rattle.messages.specs.Own.{own_bytes}
 use Rattle.protocol.specs.declared.ended.Ended.{Ended}
 use Rattle.protocol.specs.declared.ended.Rejected as turned
 use Rattle.protocol.specs.Messages.{our_bytes, forwarded_bytes}
-use Rattle.protocol.specs.Outcomes.{SetUp, Outcome, rejected, forwarded, rejects}
+use Rattle.protocol.specs.Outcomes.{SetUp, rejected, forwarded}
 use Rattle.protocol.specs.Calls.{time_at, by_prepare, reservation_for}
 use Rattle.protocol.specs.Turns.{ended_as}
 use Rattle.connector.specs.declared.prepared.Onward.{Onward}

@@ -1,4 +1,4 @@
-use Rattle.std.proofs.Common.{◌≡◌, refl, ap, ◌∙◌}
+use Rattle.std.proofs.Common.{refl, ap, ◌∙◌}
 use Rattle.pending.specs.Rows.{lookup}
 use Rattle.ledger.specs.Books.{marked_at}
 use Rattle.connector.specs.Views.{books_of, set_up_of}

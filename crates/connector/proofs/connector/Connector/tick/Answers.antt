@@ -1,4 +1,4 @@
-use Rattle.std.proofs.Common.{◌≡◌, false, ◌++◌, length, drop, sym, refl, ap, ◌∙◌, arith}
+use Rattle.std.proofs.Common.{false, ◌++◌, length, drop, refl, ap, ◌∙◌, arith}
 use Rattle.wire.specs.declared.code.RejectCode.TheVariants as code
 use Rattle.pending.specs.Rows.{due}
 use Rattle.ledger.specs.Books.{Books, closed}
