@@ -1,20 +1,21 @@
 #!/usr/bin/env python3
 """Spells this repository's own definitions and lemmas as today's Rattle does: words in snake case, facts and types in camel case.
 
-usage: tools/respell.py [--check] [FOLDER]
+usage: tools/respell.py [--check] [--fields] [FOLDER]
 
 Run it once, right after port.py, at the top of the repository (or of FOLDER). It turns, in crates/:
   - each name in lower camel case, in specs/, in proofs/ and in the clauses and comments of src/: packetBytes becomes packet_bytes;
   - each fact that had dashes: Well-formed becomes WellFormed;
-  - the definitions of specs/ in WORDS, whose dashes become underscores.
+  - the definitions of specs/ in WORDS, and the fields of the records of specs/, whose dashes become underscores.
 Lemmas keep the dash between their parts, as std's do. Strings, inputs, outputs and the names of Rust stay. Of the must-fail edits it
-turns the names alone. It prints 'meets:' where a new name already stood in a file that has the old one; --check writes nothing.
+turns the names alone. It prints 'meets:' where a new name already stood in a file that has the old one; --check writes nothing,
+and --fields turns the fields of records alone.
 """
 import os
 import re
 import sys
 
-TOKEN = re.compile(r"[^\s(){}.;,@\"«»\[\]|:]+")
+TOKEN = re.compile(r"[^\s(){}.;,@\"«»\[\]|:`]+")
 CAMEL = re.compile(r"[a-z][a-z0-9]*(?:[A-Z][a-z0-9]*)+(?:-[a-z0-9_]+)*$|[a-z][a-z0-9_]*(?:-[a-z][a-z0-9]*)*-[a-z][a-z0-9]*(?:[A-Z][a-z0-9]*)+$")
 FACT = re.compile(r"[A-Z][a-z0-9]*(?:-[A-Za-z0-9]+)+$")
 # A fact's name is turned only where some file declares it: a step that Rattle names after a variant has the same shape.
@@ -48,6 +49,34 @@ def snake(name):
 
 def camel(name):
     return "".join(p[:1].upper() + p[1:] for p in name.split("-"))
+
+
+def crates_above(top):
+    """Each crate with itself and the crates that name it in crates.txt."""
+    above = {}
+    with open(os.path.join(top, "crates.txt"), encoding="utf-8") as f:
+        for line in f:
+            m = re.match(r"(\w+)[^:#]*:(.*)", line)
+            if m:
+                for below in [m[1], *m[2].split("#")[0].split()]:
+                    above.setdefault(below, set()).add(m[1])
+    return above
+
+
+def fields_of(text):
+    """The fields with a dash of the records that the text declares."""
+    found, edge = set(), None
+    for line in text.split("\n"):
+        indent = len(line) - len(line.lstrip())
+        if re.match(r" *(?:pub )?record ", line):
+            edge = indent
+        elif edge is not None and line.strip() and indent <= edge:
+            edge = None
+        elif edge is not None:
+            m = re.match(r"\s+(?:pub )?([a-z][a-z0-9_]*(?:-[a-z0-9_]+)+)(?: [^:]*)? :", line)
+            if m:
+                found.add(m[1])
+    return found
 
 
 def files(top):
@@ -84,7 +113,8 @@ def turned(word, facts, prose, lemmas):
 
 def main(argv):
     check = "--check" in argv
-    rest = [a for a in argv if a != "--check"]
+    alone = "--fields" in argv
+    rest = [a for a in argv if a not in ("--check", "--fields")]
     top = rest[0] if rest else "."
     texts = {p: open(p, encoding="utf-8").read() for p in files(top)}
     facts = set()
@@ -92,13 +122,20 @@ def main(argv):
         if p.endswith(".antt"):
             facts |= set(DECLARED.findall(t)) | set(LOCAL.findall(t))
     facts -= LAWS
+    above, fields = crates_above(top), {}
+    for p, t in texts.items():
+        m = re.search(r"crates/(\w+)/specs/", p)
+        if m:
+            for c in above.get(m[1], {m[1]}):
+                fields.setdefault(c, set()).update(fields_of(t))
     changed = 0
     for p, t in texts.items():
         comment = "(?<![^\\s])--" if p.endswith(".antt") else "//"
         out, olds, words = [], {}, set()
-        lemmas = {}
+        of_crate = fields.get(re.search(r"crates/(\w+)/", p)[1], set())
+        lemmas = {f: f.replace("-", "_") for f in of_crate}
         for part, rows in LEMMAS.items():
-            if f"crates/{part}" in p and p.endswith(".antt"):
+            if not alone and f"crates/{part}" in p and p.endswith(".antt"):
                 lemmas |= rows
         for kind, piece in pieces(t, comment):
             if kind == "string" and not p.endswith(".edit"):
@@ -106,7 +143,10 @@ def main(argv):
                 continue
 
             def one(m):
-                w = turned(m[0], facts, kind == "prose", lemmas)
+                prose = kind == "prose"
+                if prose and m[0] in of_crate:
+                    return m[0]
+                w = lemmas.get(m[0], m[0]) if alone else turned(m[0], facts, prose, lemmas)
                 if kind == "code":
                     words.add(m[0])
                     if w != m[0]:

@@ -1,6 +1,6 @@
 -- The Gregorian calendar in UTC, from 1970 to 9999, with no leap seconds.
 -- A timestamp is 17 digits, YYYYMMDDHHmmSSfff. An instant is the number of milliseconds since 1970 began.
--- `instantOf` says what bytes mean; `dateTimeOf` and `digitsOf` say what is written for an instant.
+-- `instant_of` says what bytes mean; `date_time_of` and `digits_of` say what is written for an instant.
 use Rattle.std.specs.Prelude.{◌≡◌, ℕ, zero, suc, ◌+◌, ◌-◌, ◌*◌, ◌/◌, ◌%◌, ◌≤◌, Bool, true, cond, not, ◌&&◌, ◌||◌, List, [], ◌∷◌, length, Some, None, Option, ◌==◌, ◌≢◌, nat_le, nat_lt, slice_index}
 use Rattle.calendar.specs.declared.civil.DateTime.{DateTime}
 

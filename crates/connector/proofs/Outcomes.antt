@@ -28,7 +28,7 @@ module _ {St : Type 0} (held : St → List ℕ) where
   pub refused-so : (s : SetUp) (b : Books) (p : St) (o : Outcome) (x : Refusal) (buffer : List ℕ) → o ≡ refuses x → TurnsOut held s b p o buffer (refused x) b p buffer
   refused-so s b p o x buffer e =
       subst (λ q. TurnsOut held s b p q buffer (refused x) b p buffer) (sym e)
-      (record { answer = refl; books = refl; stack = refl; buffer-now = refl })
+      (record { answer = refl; books = refl; stack = refl; buffer_now = refl })
 
 -- SENT
 pub sent-none : (b : Books) (n : ℕ) → None ≡ lookup n b.rows → sent_outcome b n ≡ refuses refusal.NotPending

@@ -30,8 +30,8 @@ module _ {S H : Type 0} (held : S → List ℕ) where
     pub books : books_of c ≡ new_books s.accounts.now
     pub own : (set_up_of c).own ≡ s.address.now
     pub routes : (set_up_of c).routes ≡ given_list s.routes.now
-    pub same-stages : c.stages ≡ stages
-    pub same-hash : c.hash ≡ hash
+    pub same_stages : c.stages ≡ stages
+    pub same_hash : c.hash ≡ hash
 
   abbrev pub Made : SetUp → S → H → Result (Connector S H) (Unmade S H) → Type 0
   Made s stages hash (Ok c) = New s stages hash c

@@ -18,18 +18,18 @@ pub hand-written-runs : HandWrittenRuns
 unfolding forward determinant field determinant_of year_length total days_before_year days_before_month count_off year_and_day month_and_day valid_date valid_time day_number instant_at date_time_of all_digits fields_of written is_timestamp instant_of digits_of is_address is_prefix amount_bytes packet_bytes read_amount read_expiry read_code read_destination read_trigger read_length read_as practice route_fits routes_fit begins route_for prepare_outcome sent_outcome unsent_outcome answer_outcome tick_outcome settle_outcome prepare_in answer_in forwarded_bytes our_bytes pair_of
 hand-written-runs =
     record {
-      fulfilled = record { answered = refl; booked = refl; left-on-the-sheet = refl; right-on-the-sheet = refl };
-      just-in-time = record { answered = refl; booked = refl; left-on-the-sheet = refl; right-on-the-sheet = refl };
-      too-late = record { answered = refl; booked = refl; left-on-the-sheet = refl; right-on-the-sheet = refl };
-      late-and-wrong = record { answered = refl; booked = refl; left-on-the-sheet = refl; right-on-the-sheet = refl };
-      wrong-secret = record { answered = refl; booked = refl; left-on-the-sheet = refl; right-on-the-sheet = refl };
-      peer-refuses = record { answered = refl; booked = refl; left-on-the-sheet = refl; right-on-the-sheet = refl };
-      junk-answer = record { answered = refl; booked = refl; left-on-the-sheet = refl; right-on-the-sheet = refl };
-      answers-refused = record { answered = refl; booked = refl; left-on-the-sheet = refl; right-on-the-sheet = refl };
-      sent-or-unsent = record { answered = refl; booked = refl; left-on-the-sheet = refl; right-on-the-sheet = refl };
-      swept = record { answered = refl; booked = refl; left-on-the-sheet = refl; right-on-the-sheet = refl };
-      rejected = record { answered = refl; booked = refl; left-on-the-sheet = refl; right-on-the-sheet = refl };
-      full-line = record { answered = refl; booked = refl; left-on-the-sheet = refl; right-on-the-sheet = refl };
-      times = record { answered = refl; booked = refl; left-on-the-sheet = refl; right-on-the-sheet = refl };
-      settlements = record { answered = refl; booked = refl; left-on-the-sheet = refl; right-on-the-sheet = refl };
+      fulfilled = record { answered = refl; booked = refl; left_on_the_sheet = refl; right_on_the_sheet = refl };
+      just_in_time = record { answered = refl; booked = refl; left_on_the_sheet = refl; right_on_the_sheet = refl };
+      too_late = record { answered = refl; booked = refl; left_on_the_sheet = refl; right_on_the_sheet = refl };
+      late_and_wrong = record { answered = refl; booked = refl; left_on_the_sheet = refl; right_on_the_sheet = refl };
+      wrong_secret = record { answered = refl; booked = refl; left_on_the_sheet = refl; right_on_the_sheet = refl };
+      peer_refuses = record { answered = refl; booked = refl; left_on_the_sheet = refl; right_on_the_sheet = refl };
+      junk_answer = record { answered = refl; booked = refl; left_on_the_sheet = refl; right_on_the_sheet = refl };
+      answers_refused = record { answered = refl; booked = refl; left_on_the_sheet = refl; right_on_the_sheet = refl };
+      sent_or_unsent = record { answered = refl; booked = refl; left_on_the_sheet = refl; right_on_the_sheet = refl };
+      swept = record { answered = refl; booked = refl; left_on_the_sheet = refl; right_on_the_sheet = refl };
+      rejected = record { answered = refl; booked = refl; left_on_the_sheet = refl; right_on_the_sheet = refl };
+      full_line = record { answered = refl; booked = refl; left_on_the_sheet = refl; right_on_the_sheet = refl };
+      times = record { answered = refl; booked = refl; left_on_the_sheet = refl; right_on_the_sheet = refl };
+      settlements = record { answered = refl; booked = refl; left_on_the_sheet = refl; right_on_the_sheet = refl };
     }

@@ -1,7 +1,7 @@
 -- A layer keeps the laws of the stage below if its own answer keeps the number and does not put the expiry off.
 -- Assumes nothing.
-use Rattle.std.specs.Prelude.{◌≡◌, ℕ, ◌*◌, ◌/◌, ◌≤◌, Bool, true, false, cond, ◌&&◌, List, ◌==◌, nat_lt, slice_index, slice_index_or, refl}
-use Rattle.std.proofs.Common.{ap, ◌∙◌, le_refl, arith}
+use Rattle.std.specs.Prelude.{◌≡◌, ℕ, ◌*◌, ◌/◌, ◌≤◌, Bool, true, false, cond, ◌&&◌, List, ◌==◌, nat_lt, slice_index, refl}
+use Rattle.std.proofs.Common.{ap, ◌∙◌, le_refl, le_trans}
 use Rattle.wire.specs.declared.code.RejectCode.TheVariants.{InsufficientLiquidity, InsufficientSourceAmount}
 use Rattle.stage.specs.declared.transfer.Transfer.{Transfer}
 use Rattle.stage.specs.declared.transfer.Verdict.{Verdict}
@@ -13,7 +13,7 @@ use Rattle.layers.specs.declared.own.Own.TheVariants.{Onward, Back}
 use Rattle.layers.specs.Layers.{over, Kept, rejects_own, with_amount, rate_own}
 
 later : (t u : Transfer) (v : Verdict) → u.expiry ≤ t.expiry → NotLater u v → NotLater t v
-later t u (Pass p) h k = omega arith
+later t u (Pass p) h k = le_trans k h
 later t u (Reject r) h k = tt
 
 pub over-expiry : (below : Transfer → Verdict) → ((u : Transfer) → NotLater u (below u)) → (t : Transfer) (o : Own) → Kept t o → NotLater t (over o below)
@@ -31,7 +31,7 @@ kept-cond t false x y h k = k
 -- a conversion changes the amount alone
 pub rate-kept : (prices : List ℕ) (t : Transfer) → Kept t (rate_own prices t)
 rate-kept prices t =
-    let a : ℕ = t.amount * slice_index prices t.accounts.incoming / slice_index_or prices t.accounts.outgoing 0 in
+    let a : ℕ = t.amount * slice_index prices t.accounts.incoming / slice_index prices t.accounts.outgoing in
     let onward : Own = Onward (with_amount t a) in
     let nothing : Own = rejects_own InsufficientSourceAmount in
     kept-cond t (nat_lt 9_223_372_036_854_775_807 a) (rejects_own InsufficientLiquidity) (cond (a == 0 && nat_lt 0 t.amount) nothing onward) tt

@@ -31,46 +31,46 @@ get_or-adjust a k f xs l =
 held-in-more : (x : Bool) (l f : Figures) (z : ℤ) (i o m : ℕ) → (x ≡ true → takes_in m f ≡ true) → AccountMatches l z i o f → AccountMatches l z (i + cond x m 0) o (cond x (hold_in m f) f)
 held-in-more true l f z i o m fits h =
     let k = h.keeps in
-    record { balance = h.balance; held_in = ap (λ v. v + m) h.held_in; held_out = h.held_out; same-ceiling = h.same-ceiling; same-floor = h.same-floor; keeps = (let t = fits refl in grind (arith, ints), k.1, k.2, k.3) }
+    record { balance = h.balance; held_in = ap (λ v. v + m) h.held_in; held_out = h.held_out; same_ceiling = h.same_ceiling; same_floor = h.same_floor; keeps = (let t = fits refl in grind (arith, ints), k.1, k.2, k.3) }
 held-in-more false l f z i o m fits h =
-    record { balance = h.balance; held_in = omega (arith, h.held_in); held_out = h.held_out; same-ceiling = h.same-ceiling; same-floor = h.same-floor; keeps = h.keeps }
+    record { balance = h.balance; held_in = omega (arith, h.held_in); held_out = h.held_out; same_ceiling = h.same_ceiling; same_floor = h.same_floor; keeps = h.keeps }
 
 held-out-more : (x : Bool) (l f : Figures) (z : ℤ) (i o m : ℕ) → (x ≡ true → takes_out m f ≡ true) → AccountMatches l z i o f → AccountMatches l z i (o + cond x m 0) (cond x (hold_out m f) f)
 held-out-more true l f z i o m fits h =
     let k = h.keeps in
-    record { balance = h.balance; held_in = h.held_in; held_out = ap (λ v. v + m) h.held_out; same-ceiling = h.same-ceiling; same-floor = h.same-floor; keeps = (k.0, let t = fits refl in grind (arith, ints), k.2, k.3) }
+    record { balance = h.balance; held_in = h.held_in; held_out = ap (λ v. v + m) h.held_out; same_ceiling = h.same_ceiling; same_floor = h.same_floor; keeps = (k.0, let t = fits refl in grind (arith, ints), k.2, k.3) }
 held-out-more false l f z i o m fits h =
-    record { balance = h.balance; held_in = h.held_in; held_out = omega (arith, h.held_out); same-ceiling = h.same-ceiling; same-floor = h.same-floor; keeps = h.keeps }
+    record { balance = h.balance; held_in = h.held_in; held_out = omega (arith, h.held_out); same_ceiling = h.same_ceiling; same_floor = h.same_floor; keeps = h.keeps }
 
 ended-in : (x paid : Bool) (l f : Figures) (z : ℤ) (i o m : ℕ) → AccountMatches l z (cond x m 0 + i) o f → AccountMatches l (cond paid (cond x (z +ℤ pos m) z) z) i o (cond x (end_in paid m f) f)
 ended-in true true l f z i o m h =
     let k = h.keeps in
-    record { balance = ap (λ v. v +ℤ pos m) h.balance; held_in = omega (arith, h.held_in); held_out = h.held_out; same-ceiling = h.same-ceiling; same-floor = h.same-floor; keeps = (let t = k.0 in let e = h.held_in in omega (arith, ints), let t = k.1 in omega (arith, ints), k.2, k.3) }
+    record { balance = ap (λ v. v +ℤ pos m) h.balance; held_in = omega (arith, h.held_in); held_out = h.held_out; same_ceiling = h.same_ceiling; same_floor = h.same_floor; keeps = (let t = k.0 in let e = h.held_in in omega (arith, ints), let t = k.1 in omega (arith, ints), k.2, k.3) }
 ended-in true false l f z i o m h =
     let k = h.keeps in
-    record { balance = h.balance; held_in = omega (arith, h.held_in); held_out = h.held_out; same-ceiling = h.same-ceiling; same-floor = h.same-floor; keeps = (let t = k.0 in let e = h.held_in in omega (arith, ints), k.1, k.2, k.3) }
+    record { balance = h.balance; held_in = omega (arith, h.held_in); held_out = h.held_out; same_ceiling = h.same_ceiling; same_floor = h.same_floor; keeps = (let t = k.0 in let e = h.held_in in omega (arith, ints), k.1, k.2, k.3) }
 ended-in false true l f z i o m h =
-    record { balance = h.balance; held_in = omega (arith, h.held_in); held_out = h.held_out; same-ceiling = h.same-ceiling; same-floor = h.same-floor; keeps = h.keeps }
+    record { balance = h.balance; held_in = omega (arith, h.held_in); held_out = h.held_out; same_ceiling = h.same_ceiling; same_floor = h.same_floor; keeps = h.keeps }
 ended-in false false l f z i o m h =
-    record { balance = h.balance; held_in = omega (arith, h.held_in); held_out = h.held_out; same-ceiling = h.same-ceiling; same-floor = h.same-floor; keeps = h.keeps }
+    record { balance = h.balance; held_in = omega (arith, h.held_in); held_out = h.held_out; same_ceiling = h.same_ceiling; same_floor = h.same_floor; keeps = h.keeps }
 
 ended-out : (x paid : Bool) (l f : Figures) (z : ℤ) (i o m : ℕ) → AccountMatches l z i (cond x m 0 + o) f → AccountMatches l (cond paid (cond x (z -ℤ pos m) z) z) i o (cond x (end_out paid m f) f)
 ended-out true true l f z i o m h =
     let k = h.keeps in
-    record { balance = ap (λ v. v -ℤ pos m) h.balance; held_in = h.held_in; held_out = omega (arith, h.held_out); same-ceiling = h.same-ceiling; same-floor = h.same-floor; keeps = (let t = k.0 in omega (arith, ints), let t = k.1 in let e = h.held_out in omega (arith, ints), k.2, k.3) }
+    record { balance = ap (λ v. v -ℤ pos m) h.balance; held_in = h.held_in; held_out = omega (arith, h.held_out); same_ceiling = h.same_ceiling; same_floor = h.same_floor; keeps = (let t = k.0 in omega (arith, ints), let t = k.1 in let e = h.held_out in omega (arith, ints), k.2, k.3) }
 ended-out true false l f z i o m h =
     let k = h.keeps in
-    record { balance = h.balance; held_in = h.held_in; held_out = omega (arith, h.held_out); same-ceiling = h.same-ceiling; same-floor = h.same-floor; keeps = (k.0, let t = k.1 in let e = h.held_out in omega (arith, ints), k.2, k.3) }
+    record { balance = h.balance; held_in = h.held_in; held_out = omega (arith, h.held_out); same_ceiling = h.same_ceiling; same_floor = h.same_floor; keeps = (k.0, let t = k.1 in let e = h.held_out in omega (arith, ints), k.2, k.3) }
 ended-out false true l f z i o m h =
-    record { balance = h.balance; held_in = h.held_in; held_out = omega (arith, h.held_out); same-ceiling = h.same-ceiling; same-floor = h.same-floor; keeps = h.keeps }
+    record { balance = h.balance; held_in = h.held_in; held_out = omega (arith, h.held_out); same_ceiling = h.same_ceiling; same_floor = h.same_floor; keeps = h.keeps }
 ended-out false false l f z i o m h =
-    record { balance = h.balance; held_in = h.held_in; held_out = omega (arith, h.held_out); same-ceiling = h.same-ceiling; same-floor = h.same-floor; keeps = h.keeps }
+    record { balance = h.balance; held_in = h.held_in; held_out = omega (arith, h.held_out); same_ceiling = h.same_ceiling; same_floor = h.same_floor; keeps = h.keeps }
 
 settled-one : (x : Bool) (l f : Figures) (z w : ℤ) (i o : ℕ) → (x ≡ true → within (with_balance w f) ≡ true) → AccountMatches l z i o f → AccountMatches l (cond x w z) i o (cond x (with_balance w f) f)
 settled-one true l f z w i o fits h =
     let k = h.keeps in
     let two = and_parts (le_z (w +ℤ pos f.held_in) (pos f.ceiling)) (le_z (neg_ℤ (pos f.floor)) (w -ℤ pos f.held_out)) (fits refl) in
-    record { balance = refl; held_in = h.held_in; held_out = h.held_out; same-ceiling = h.same-ceiling; same-floor = h.same-floor; keeps = (let t = two.0 in grind (arith, ints), let t = two.1 in grind (arith, ints), k.2, k.3) }
+    record { balance = refl; held_in = h.held_in; held_out = h.held_out; same_ceiling = h.same_ceiling; same_floor = h.same_floor; keeps = (let t = two.0 in grind (arith, ints), let t = two.1 in grind (arith, ints), k.2, k.3) }
 settled-one false l f z w i o fits h = h
 
 -- what can be held out is below 2^64, since the limits are

@@ -18,16 +18,16 @@ abbrev pub shown : Books → (ℕ → ℤ) → Sheet
 shown b bal = record { time = b.time; forwarded = b.last; rows = b.rows; balance = bal }
 
 pub origin-more : (e : Event) (es : List Event) (r : Pending) → Origin es r → Origin (e ∷ es) r
-origin-more e es r o = record { origin = o.origin; came-before = inr o.came-before; forwarding = o.forwarding; stands = o.stands; not-later = o.not-later }
+origin-more e es r o = record { origin = o.origin; came_before = inr o.came_before; forwarding = o.forwarding; stands = o.stands; not_later = o.not_later }
 
 -- a mark is no matter
 pub stands-marked : (n : ℕ) (e : Event) (f : Forwarding n e) (r : Pending) → StandsFor n e f r → StandsFor n e f (as_sent r)
 stands-marked n e f r s =
-    record { number = s.number; sender = s.sender; request = s.request; outgoing = s.outgoing; amount-in = s.amount-in; condition = s.condition; amount-out = s.amount-out; expiry = s.expiry }
+    record { number = s.number; sender = s.sender; request = s.request; outgoing = s.outgoing; amount_in = s.amount_in; condition = s.condition; amount_out = s.amount_out; expiry = s.expiry }
 
 pub origin-marked : (es : List Event) (r : Pending) → Origin es r → Origin es (as_sent r)
 origin-marked es r o =
-    record { origin = o.origin; came-before = o.came-before; forwarding = o.forwarding; stands = stands-marked r.number o.origin o.forwarding r o.stands; not-later = o.not-later }
+    record { origin = o.origin; came_before = o.came_before; forwarding = o.forwarding; stands = stands-marked r.number o.origin o.forwarding r o.stands; not_later = o.not_later }
 
 -- what is said of one forwarding twice is the same
 same-forwarding : (m n : ℕ) (d e : Event) (f : Forwarding m d) (g : Forwarding n e) (r : Pending) → m ≡ n → d ≡ e → StandsFor m d f r → StandsFor n e g r
@@ -52,9 +52,9 @@ same-forwarding m n d e f g r same is s =
       sender = s.sender ∙ a;
       request = s.request ∙ b;
       outgoing = s.outgoing ∙ o;
-      amount-in = s.amount-in ∙ ap (λ (p : PrepareValue). p.amount) asked;
+      amount_in = s.amount_in ∙ ap (λ (p : PrepareValue). p.amount) asked;
       condition = s.condition ∙ ap (λ (p : PrepareValue). p.condition) asked;
-      amount-out = s.amount-out ∙ ap (λ (p : PrepareValue). p.amount) went;
+      amount_out = s.amount_out ∙ ap (λ (p : PrepareValue). p.amount) went;
       expiry = s.expiry ∙ ap (λ (p : PrepareValue). p.expiry) went;
     }
 
@@ -133,7 +133,7 @@ module _ (digest : List ℕ → List ℕ) {St : Type 0} (held : St → List ℕ)
           let o = all_found (Origin es) n b.rows r found k.origins in
           let same : r.number ≡ n = lookup-number n b.rows r found in
           let g : Forwarding n o.origin = subst (λ m. Forwarding m o.origin) same o.forwarding in
-          same-forwarding r.number n o.origin e o.forwarding f r same (k.numbers.one n o.origin e o.came-before h g f) o.stands
+          same-forwarding r.number n o.origin e o.forwarding f r same (k.numbers.one n o.origin e o.came_before h g f) o.stands
 
       go : (c : ℕ) → total (numbered n) b.rows ≡ c → ((times_ended digest n es ≡ 0) × (r : Pending) × (lookup n b.rows ≡ Some r) × StandsFor n e f r) ⊎ ((times_ended digest n es ≡ 1) × (lookup n b.rows ≡ None))
       go Prim.Native.Nat.zero t = inr (omega (arith, bound), counted_none n b.rows t)
@@ -145,8 +145,8 @@ module _ (digest : List ℕ → List ℕ) {St : Type 0} (held : St → List ℕ)
   pub promised : (es : List Event) (b : Books) (p : St) → Kept es b p → Promise digest held s first es b p
   promised es b p k =
       record {
-        records-match-the-sheet = subst (λ (w : Sheet). RecordsMatch held w b p) (sym k.is) (record { rows = refl; open-numbers = k.opened; time = refl; last = refl });
-        pending-until-its-decisive-call = until es b p k;
-        balances-match-the-sheet = subst (λ (w : Sheet). BalancesMatch first w b) (sym k.is) (record { same-accounts = k.accounts.0; each = k.accounts.1 });
-        a-fulfilment-needs-the-secret-in-time = k.decisive;
+        records_match_the_sheet = subst (λ (w : Sheet). RecordsMatch held w b p) (sym k.is) (record { rows = refl; open_numbers = k.opened; time = refl; last = refl });
+        pending_until_its_decisive_call = until es b p k;
+        balances_match_the_sheet = subst (λ (w : Sheet). BalancesMatch first w b) (sym k.is) (record { same_accounts = k.accounts.0; each = k.accounts.1 });
+        a_fulfilment_needs_the_secret_in_time = k.decisive;
       }

@@ -135,7 +135,7 @@ module _ (digest : List ℕ → List ℕ) {St : Type 0} (held : St → List ℕ)
         ((f : FulfillValue) → answer_in e.packet ≡ Ok (fulfilled f) → ⊥) →
         DecidedRight digest s.own now es e r
     not-fulfilling now es e r cannot same reads =
-        record { fulfills = λ f. absurd (cannot f); in-time = λ f. absurd (cannot f); rejects = λ _. same; only_then = λ f q. absurd (reads f q) }
+        record { fulfills = λ f. absurd (cannot f); in_time = λ f. absurd (cannot f); rejects = λ _. same; only_then = λ f q. absurd (reads f q) }
 
     module _ (valid : is_address s.own ≡ true) where
       -- a Reject of ours is read as no Fulfill
@@ -157,7 +157,7 @@ module _ (digest : List ℕ → List ℕ) {St : Type 0} (held : St → List ℕ)
           (ap (λ m. with_rows (dropped m) (shown b k.bal)) (sym (lookup-number n b.rows r found)))
           found
           refl
-          (not-fulfilling b.time es e r (λ f. let q = f.is-answer in let z : ◌≡◌ {A = ℕ} 0 1 = cc in absurd (omega arith)) refl (ours-no-fulfill code.PeerUnreachable))
+          (not-fulfilling b.time es e r (λ f. let q = f.is_answer in let z : ◌≡◌ {A = ℕ} 0 1 = cc in absurd (omega arith)) refl (ours-no-fulfill code.PeerUnreachable))
 
       pub by-tick : (t : ℕ) (r : Pending) (es : List Event) (b : Books) (p p' : St) → Held es b p → due (time_at b t) b.rows ≡ Some r →
           held p' ≡ without (held p) r.number →
@@ -171,12 +171,12 @@ module _ (digest : List ℕ → List ℕ) {St : Type 0} (held : St → List ℕ)
           (ap (λ o. remove o (with_time (time_at b t) (shown b k.bal))) found)
           found
           refl
-          (not-fulfilling (time_at b t) es e r (λ f. let q = f.is-answer in let z : ◌≡◌ {A = ℕ} 0 1 = cc in absurd (omega arith)) refl (ours-no-fulfill code.TransferTimedOut))
+          (not-fulfilling (time_at b t) es e r (λ f. let q = f.is_answer in let z : ◌≡◌ {A = ℕ} 0 1 = cc in absurd (omega arith)) refl (ours-no-fulfill code.TransferTimedOut))
 
       -- what a fulfilling answer is read as
       fulfilling-reads : (now a n t : ℕ) (bytes : List ℕ) (r : Pending) (g : Fulfilling digest now (answer a n t bytes) r) → (bytes ≡ g.bytes) × (answer_in bytes ≡ Ok (fulfilled g.brought))
       fulfilling-reads now a n t bytes r g =
-          let q = g.is-answer in
+          let q = g.is_answer in
           let h : bytes ≡ g.bytes = cc in
           (h, ap answer_in h ∙ g.brings)
 
@@ -221,11 +221,11 @@ module _ (digest : List ℕ → List ℕ) {St : Type 0} (held : St → List ℕ)
       paid-right a n t bytes f reply r es b p k found reads e same =
           let l : time_at b t < r.expiry = ltb-true (time_at b t) r.expiry e in
           let g : Fulfilling digest (time_at b t) (answer a n t bytes) r =
-          record { account = a; time = t; bytes = bytes; brought = f; is-answer = ap (λ m. answer a m t bytes) (sym (lookup-number n b.rows r found)); brings = reads; matching = (bytes_eq-Decides (digest f.fulfilment) r.condition).0 same; before = l } in
+          record { account = a; time = t; bytes = bytes; brought = f; is_answer = ap (λ m. answer a m t bytes) (sym (lookup-number n b.rows r found)); brings = reads; matching = (bytes_eq-Decides (digest f.fulfilment) r.condition).0 same; before = l } in
           let o = all_found (Origin es) n b.rows r found k.origins in
           record {
             fulfills = λ h. (fulfilling-reads (time_at b t) a n t bytes r h).0;
-            in-time = λ h. (o, omega (arith, o.not-later));
+            in_time = λ h. (o, omega (arith, o.not_later));
             rejects = λ cannot. absurd (cannot g);
             only_then = λ h q. g;
           }
@@ -314,6 +314,6 @@ module _ (digest : List ℕ → List ℕ) {St : Type 0} (held : St → List ℕ)
             (λ m f. (let y = ap (λ (z : Event). z.reply) f.is in let g : b.last + 1 ≡ m = cc in sym g, refl))
             (omega arith)
             (All-push (Origin (e ∷ es)) b.rows r (All-weaker (Origin es) (Origin (e ∷ es)) (origin-more e es) b.rows k.origins)
-            (record { origin = e; came-before = inl refl; forwarding = sent-as; stands = record { number = refl; sender = refl; request = refl; outgoing = refl; amount-in = refl; condition = refl; amount-out = refl; expiry = refl }; not-later = l }))
+            (record { origin = e; came_before = inl refl; forwarding = sent-as; stands = record { number = refl; sender = refl; request = refl; outgoing = refl; amount_in = refl; condition = refl; amount_out = refl; expiry = refl }; not_later = l }))
             (accounts-hold first.accounts b.accounts k.bal b.rows r (and_parts _ _ fits_in).1 (and_parts _ _ fits_out).1 k.accounts)
             (λ y z. never y z)

@@ -52,7 +52,7 @@ new-matches l fits =
     let two = and_parts (leb l.ceiling most_limit) (leb l.floor most_limit) fits in
     let high : l.ceiling ≤ most_limit = let t = two.0 in grind (arith, nat_tests) in
     let low : l.floor ≤ most_limit = let t = two.1 in grind (arith, nat_tests) in
-    record { balance = refl; held_in = refl; held_out = refl; same-ceiling = refl; same-floor = refl; keeps = (omega (arith, ints), omega (arith, ints), high, low) }
+    record { balance = refl; held_in = refl; held_out = refl; same_ceiling = refl; same_floor = refl; keeps = (omega (arith, ints), omega (arith, ints), high, low) }
 
 all-match : (ls : List Limits) → all_fit ls ≡ true → (a : ℕ) → a < length (new_accounts ls) → AccountMatches (get_or (new_accounts ls) a unset) (pos 0) 0 0 (get_or (new_accounts ls) a unset)
 all-match [] fits a l = absurd (omega arith)
@@ -77,7 +77,7 @@ module _ (digest : List ℕ → List ℕ) {St : Type 0} (held : St → List ℕ)
         Kept digest held s first (event c reply (packet_in reply buffer') ∷ es) b' p'
     turned c es b b' p p' o buffer buffer' reply t f =
         let packet : packet_in reply buffer' ≡ written s o =
-        ap (λ x. take (told x) buffer') t.answer ∙ ap (λ n. take n buffer') (told_is o) ∙ ap (take (length (written s o))) t.buffer-now ∙ take-append_seam (written s o) (drop (length (written s o)) buffer) in
+        ap (λ x. take (told x) buffer') t.answer ∙ ap (λ n. take n buffer') (told_is o) ∙ ap (take (length (written s o))) t.buffer_now ∙ take-append_seam (written s o) (drop (length (written s o)) buffer) in
         subst (λ w. Kept digest held s first (event c reply w ∷ es) b' p') (sym packet)
         (subst (λ x. Kept digest held s first (event c x (written s o) ∷ es) b' p') (sym t.answer)
         (subst (λ x. Kept digest held s first (event c (reply_of s o) (written s o) ∷ es) x p') (sym t.books) (f t.stack)))

@@ -44,7 +44,7 @@ module _ {St : Type 0} (held : St → List ℕ) where
     -- the pending records are, in all that a row has, the rows of the sheet
     pub rows : b.rows ≡ s.rows
     -- the open numbers of the stack are the pending numbers
-    pub open-numbers : held p ≡ numbers_of s.rows
+    pub open_numbers : held p ≡ numbers_of s.rows
     pub time : b.time ≡ s.time
     pub last : b.last ≡ s.forwarded
 
@@ -69,9 +69,9 @@ pub record StandsFor (n : ℕ) (e : Event) (f : Forwarding n e) (r : Pending) : 
   pub sender : r.sender ≡ f.sender
   pub request : r.request ≡ f.request
   pub outgoing : r.outgoing ≡ f.outgoing
-  pub amount-in : r.amount_in ≡ f.asked.amount
+  pub amount_in : r.amount_in ≡ f.asked.amount
   pub condition : r.condition ≡ f.asked.condition
-  pub amount-out : r.amount_out ≡ f.went.amount
+  pub amount_out : r.amount_out ≡ f.went.amount
   pub expiry : r.expiry ≡ f.went.expiry
 
 -- whatever was forwarded: no call was decisive for it and its record stands, or one call was and no record has its number
@@ -87,12 +87,12 @@ pub record AccountMatches (limits : Figures) (balance-due : ℤ) (in-due out-due
   pub balance : f.balance ≡ balance-due
   pub held_in : f.held_in ≡ in-due
   pub held_out : f.held_out ≡ out-due
-  pub same-ceiling : f.ceiling ≡ limits.ceiling
-  pub same-floor : f.floor ≡ limits.floor
+  pub same_ceiling : f.ceiling ≡ limits.ceiling
+  pub same_floor : f.floor ≡ limits.floor
   pub keeps : Keeps f
 
 pub record BalancesMatch (first : Books) (s : Sheet) (b : Books) : Type 0 where
-  pub same-accounts : length b.accounts ≡ length first.accounts
+  pub same_accounts : length b.accounts ≡ length first.accounts
   pub each : (a : ℕ) → a < length first.accounts → AccountMatches (figures_at first a) (s.balance a) (sum_in a s.rows) (sum_out a s.rows) (figures_at b a)
 
 -- A FULFILMENT NEEDS THE SECRET IN TIME
@@ -102,7 +102,7 @@ pub record Fulfilling (digest : List ℕ → List ℕ) (now : ℕ) (c : Call) (r
   pub time : ℕ
   pub bytes : List ℕ
   pub brought : FulfillValue
-  pub is-answer : c ≡ answer account r.number time bytes
+  pub is_answer : c ≡ answer account r.number time bytes
   pub brings : answer_in bytes ≡ Ok (fulfilled brought)
   pub matching : digest brought.fulfilment ≡ r.condition
   pub before : now < r.expiry
@@ -124,10 +124,10 @@ due_reject own now (settle a w m) r = []
 -- the Prepare that a row stands for came before, and its own expiry is not before the row's
 pub record Origin (es : List Event) (r : Pending) : Type 0 where
   pub origin : Event
-  pub came-before : Among origin es
+  pub came_before : Among origin es
   pub forwarding : Forwarding r.number origin
   pub stands : StandsFor r.number origin forwarding r
-  pub not-later : r.expiry ≤ forwarding.asked.expiry
+  pub not_later : r.expiry ≤ forwarding.asked.expiry
 
 module _ (digest : List ℕ → List ℕ) where
   -- what a call writes that is decisive for a row, at a connector time now
@@ -135,7 +135,7 @@ module _ (digest : List ℕ → List ℕ) where
     -- where it fulfils, it writes the peer's Fulfill
     pub fulfills : (f : Fulfilling digest now e.call r) → e.packet ≡ f.bytes
     -- before the expiry that was read in the forwarded Prepare, too
-    pub in-time : Fulfilling digest now e.call r → (o : Origin es r) × (now < o.forwarding.asked.expiry)
+    pub in_time : Fulfilling digest now e.call r → (o : Origin es r) × (now < o.forwarding.asked.expiry)
     -- otherwise it writes the Reject that the rules want
     pub rejects : (Fulfilling digest now e.call r → ⊥) → e.packet ≡ due_reject own now e.call r
     -- and so it writes a Fulfill only where it fulfils
@@ -150,10 +150,10 @@ module _ (digest : List ℕ → List ℕ) where
   module _ {St : Type 0} (held : St → List ℕ) where
     -- all of it, of the events so far and what they came to
     pub record Promise (s : SetUp) (first : Books) (es : List Event) (b : Books) (p : St) : Type 0 where
-      pub records-match-the-sheet : RecordsMatch held (sheet digest es) b p
-      pub pending-until-its-decisive-call : PendingUntilDecided digest es b
-      pub balances-match-the-sheet : BalancesMatch first (sheet digest es) b
-      pub a-fulfilment-needs-the-secret-in-time : AFulfilmentNeedsTheSecretInTime s.own es
+      pub records_match_the_sheet : RecordsMatch held (sheet digest es) b p
+      pub pending_until_its_decisive_call : PendingUntilDecided digest es b
+      pub balances_match_the_sheet : BalancesMatch first (sheet digest es) b
+      pub a_fulfilment_needs_the_secret_in_time : AFulfilmentNeedsTheSecretInTime s.own es
 
     module _ (rule : St → Transfer → Verdict) where
       -- A run: its events, the latest first, and the books and the stack that they came to. Any call may come at any

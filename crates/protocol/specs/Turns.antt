@@ -67,7 +67,7 @@ module _ {St : Type 0} (held : St → List ℕ) where
     pub answer : reply ≡ reply_of s o
     pub books : b' ≡ books_after b o
     pub stack : StackAfter p o p'
-    pub buffer-now : buffer' ≡ written s o ++ drop (length (written s o)) buffer
+    pub buffer_now : buffer' ≡ written s o ++ drop (length (written s o)) buffer
 
   -- the calls that write nothing have no buffer
   abbrev pub SentDoes : SetUp → Books → St → (n : ℕ) → Reply → Books → St → Type 0

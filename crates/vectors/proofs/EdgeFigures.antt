@@ -14,15 +14,15 @@ use Rattle.vectors.specs.Figures.{Between0And1, EdgeFigures}
 quotient : (prices : List ℕ) (t : Transfer) (n : ℕ) → Between0And1 t → t.amount ≡ n → t.amount * get_or prices t.accounts.incoming 0 / get_or prices t.accounts.outgoing 0 ≡ n * get_or prices 0 0 / get_or prices 1 0
 quotient prices t n b e = λ i. e i * get_or prices (b.0 i) 0 / get_or prices (b.1 i) 0
 
-ten-at-3-to-7 : (t : Transfer) → Between0And1 t → t.amount ≡ 10 → rate_own (3 ∷ 7 ∷ []) t ≡ Onward (with_amount t 4)
-ten-at-3-to-7 t b e = ap (converted t) (quotient (3 ∷ 7 ∷ []) t 10 b e)
+ten_at_3_to_7 : (t : Transfer) → Between0And1 t → t.amount ≡ 10 → rate_own (3 ∷ 7 ∷ []) t ≡ Onward (with_amount t 4)
+ten_at_3_to_7 t b e = ap (converted t) (quotient (3 ∷ 7 ∷ []) t 10 b e)
 
-two-at-1-to-3 : (t : Transfer) → Between0And1 t → t.amount ≡ 2 → rate_own (1 ∷ 3 ∷ []) t ≡ rejects_own InsufficientSourceAmount
-two-at-1-to-3 t b e =
+two_at_1_to_3 : (t : Transfer) → Between0And1 t → t.amount ≡ 2 → rate_own (1 ∷ 3 ∷ []) t ≡ rejects_own InsufficientSourceAmount
+two_at_1_to_3 t b e =
     ap (converted t) (quotient (1 ∷ 3 ∷ []) t 2 b e) ∙ ap (λ n. cond (ltb 0 n) (rejects_own InsufficientSourceAmount) (Onward (with_amount t 0))) e
 
-nothing-at-1-to-3 : (t : Transfer) → Between0And1 t → t.amount ≡ 0 → rate_own (1 ∷ 3 ∷ []) t ≡ Onward (with_amount t 0)
-nothing-at-1-to-3 t b e =
+nothing_at_1_to_3 : (t : Transfer) → Between0And1 t → t.amount ≡ 0 → rate_own (1 ∷ 3 ∷ []) t ≡ Onward (with_amount t 0)
+nothing_at_1_to_3 t b e =
     ap (converted t) (quotient (1 ∷ 3 ∷ []) t 0 b e) ∙ ap (λ n. cond (ltb 0 n) (rejects_own InsufficientSourceAmount) (Onward (with_amount t 0))) e
 
 pub edge-figures : EdgeFigures
@@ -30,24 +30,24 @@ unfolding all_digits count_off date_time_of day_number days_before_month days_be
 edge-figures =
     record {
       first_read = refl;
-      first-written = refl;
-      march-2000-read = refl;
-      march-2000-written = refl;
-      no-leap-day-2001 = refl;
-      no-leap-day-expiry = λ p. refl;
-      last-read = refl;
+      first_written = refl;
+      march_2000_read = refl;
+      march_2000_written = refl;
+      no_leap_day_2001 = refl;
+      no_leap_day_expiry = λ p. refl;
+      last_read = refl;
       last_written = refl;
-      length-127-written = refl;
-      length-127-read = record { wrapper = refl; in_field = refl };
-      length-128-written = refl;
-      length-128-read = record { wrapper = refl; in_field = refl };
-      length-255-written = refl;
-      length-255-read = record { wrapper = refl; in_field = refl };
-      length-256-written = refl;
-      length-256-read = record { wrapper = refl; in_field = refl };
-      not-shortest-wrapper = refl;
-      not-shortest-field = refl;
-      ten-at-3-to-7 = ten-at-3-to-7;
-      two-at-1-to-3 = two-at-1-to-3;
-      nothing-at-1-to-3 = nothing-at-1-to-3;
+      length_127_written = refl;
+      length_127_read = record { wrapper = refl; in_field = refl };
+      length_128_written = refl;
+      length_128_read = record { wrapper = refl; in_field = refl };
+      length_255_written = refl;
+      length_255_read = record { wrapper = refl; in_field = refl };
+      length_256_written = refl;
+      length_256_read = record { wrapper = refl; in_field = refl };
+      not_shortest_wrapper = refl;
+      not_shortest_field = refl;
+      ten_at_3_to_7 = ten_at_3_to_7;
+      two_at_1_to_3 = two_at_1_to_3;
+      nothing_at_1_to_3 = nothing_at_1_to_3;
     }

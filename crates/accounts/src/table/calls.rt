@@ -1,5 +1,5 @@
 // How accounts are set up, read and booked. A call that refuses leaves the whole table as it was.
-ghost use Rattle.std.specs.Prelude.{◌≡◌, ℕ, ◌<◌, true, false, length, set, is_some, if◌then◌else◌, slice_index_or, slice_set};
+ghost use Rattle.std.specs.Prelude.{◌≡◌, ℕ, ◌<◌, true, false, length, is_some, if◌then◌else◌, slice_index_or, slice_set};
 ghost use Rattle.std.specs.Bool.{then_some};
 ghost use Rattle.accounts.specs.Figures.{Keeps, unset, adjust, is_set_up, two_set_up, can_hold_in, can_hold_out, can_hold, held, can_end, ended, settled_balance, settled, can_settle_at};
 ghost use Rattle.accounts.specs.SetUps.{set_up_fits, new_accounts};

@@ -101,7 +101,7 @@ returns g c =
             answer = ap ended e.value;
             books = e.books ∙ ap (closed (is_paid (ending_of w c.ending-ending.result)) r) c.advance.ensures;
             stack = (e.numbers, e.closed);
-            buffer-now = e.buffer;
+            buffer_now = e.buffer;
           });
       kept = record { routes = e.kept.routes; own = e.kept.own; hash = e.kept.hash };
       unchanged = tt;

@@ -65,7 +65,7 @@ returns-in-Err g c =
             answer = ap rejected (same-turned _ _ _ (w.ended ∙ ap (λ (r : Rejected). ended_as c.args.account c.args.request (our_bytes (set_up_of k).own r.code r.first r.second)) c.plain-rejected.ensures) w.fault);
             books = c.advance.ensures;
             stack = refl;
-            buffer-now = w.buffer ∙ ap (λ (r : Rejected). our_bytes (set_up_of k).own r.code r.first r.second ++ drop (length (our_bytes (set_up_of k).own r.code r.first r.second)) c.args.buffer.now) c.plain-rejected.ensures;
+            buffer_now = w.buffer ∙ ap (λ (r : Rejected). our_bytes (set_up_of k).own r.code r.first r.second ++ drop (length (our_bytes (set_up_of k).own r.code r.first r.second)) c.args.buffer.now) c.plain-rejected.ensures;
           });
       kept = record { routes = refl; own = refl; hash = refl };
       unchanged = tt;
@@ -82,7 +82,7 @@ returns-in-Err-decide g c =
           turned_so g.S.Stage.held
           (prepare-by look (set_up_of k) (books_of k) _ c.args.account c.args.request c.args.time _ (Ok p) (omega arith) c.if-not-has_account.ensures (omega arith) (prepare-read _ (Ok c.in-Ok.prepare) c.in-Ok.ensures.value)
           ∙ decided-at look (set_up_of k) (books_of k) _ c.args.account c.args.request c.args.time p (Err c.in-Err-decide.rejected) c.advance.ensures (c.in-Err-decide.ensures.value c.args.request))
-          (record { answer = ap rejected (same-turned _ _ _ w.ended w.fault); books = c.advance.ensures; stack = refl; buffer-now = w.buffer });
+          (record { answer = ap rejected (same-turned _ _ _ w.ended w.fault); books = c.advance.ensures; stack = refl; buffer_now = w.buffer });
       kept = record { routes = refl; own = refl; hash = refl };
       unchanged = tt;
     }
@@ -107,7 +107,7 @@ returns-in-Ok-decide g c =
             answer = w.value ∙ ap (λ (d : Books). forwarded (d.last + 1) (goes_to o) (length (forwarded_bytes (going p o))) (d.last + 1)) c.advance.ensures;
             books = w.books ∙ ap (λ (d : Books). admitted (next_row d (reservation_for c.args.account c.args.request p (goes_to o) o.passed)) d) c.advance.ensures;
             stack = w.numbers ∙ ap (λ (d : Books). open-before ++ (d.last + 1) ∷ []) c.advance.ensures;
-            buffer-now = w.buffer;
+            buffer_now = w.buffer;
           });
       kept = record { routes = w.kept.routes; own = w.kept.own; hash = w.kept.hash };
       unchanged = tt;

@@ -30,7 +30,7 @@ returns g c =
       does =
           turned_so g.S.Stage.held
           (sent-marks (books_of k) c.args.duty.number c.in-Some.row (c.in-Some.ensures ∙ ap (λ n. lookup n (books_of k).rows) c.spend-number.ensures) c.if-row.false)
-          (record { answer = refl; books = c.mark.ensures.books ∙ ap (λ m. marked_at m (books_of k)) c.spend-number.ensures; stack = refl; buffer-now = refl });
+          (record { answer = refl; books = c.mark.ensures.books ∙ ap (λ m. marked_at m (books_of k)) c.spend-number.ensures; stack = refl; buffer_now = refl });
       kept = record { routes = refl; own = refl; hash = refl };
       unchanged = tt;
     }

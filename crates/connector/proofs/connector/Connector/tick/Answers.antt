@@ -36,7 +36,7 @@ returns-in_default g c =
       does =
           turned_so g.S.Stage.held
           (tick-by (books_of k) _ c.args.time _ (omega arith) (omega arith) (c.in_default.ensures ∙ ap (λ (b : Books). due b.time b.rows) c.advance.ensures))
-          (record { answer = refl; books = c.advance.ensures; stack = refl; buffer-now = refl });
+          (record { answer = refl; books = c.advance.ensures; stack = refl; buffer_now = refl });
       kept = record { routes = refl; own = refl; hash = refl };
       unchanged = tt;
     }
@@ -57,7 +57,7 @@ returns g c =
             answer = ap ended (c.reject.ensures.value ∙ ap (λ w. ended_as r.sender r.request (our_bytes (own_bytes w) code.TransferTimedOut 0 0)) e.kept.own);
             books = e.books ∙ ap (closed false r) c.advance.ensures;
             stack = (e.numbers, e.closed);
-            buffer-now = c.reject.ensures.buffer ∙ ap (λ w. our_bytes (own_bytes w) code.TransferTimedOut 0 0 ++ drop (length (our_bytes (own_bytes w) code.TransferTimedOut 0 0)) c.args.buffer.now) e.kept.own;
+            buffer_now = c.reject.ensures.buffer ∙ ap (λ w. our_bytes (own_bytes w) code.TransferTimedOut 0 0 ++ drop (length (our_bytes (own_bytes w) code.TransferTimedOut 0 0)) c.args.buffer.now) e.kept.own;
           });
       kept = record { routes = e.kept.routes; own = e.kept.own; hash = e.kept.hash };
       unchanged = tt;

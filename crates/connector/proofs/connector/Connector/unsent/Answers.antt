@@ -57,7 +57,7 @@ returns g c =
             answer = ap ended (c.reject.ensures.value ∙ ap (λ w. ended_as c.in-Some.row.sender c.in-Some.row.request (our_bytes (own_bytes w) code.PeerUnreachable 0 0)) e.kept.own);
             books = e.books;
             stack = (e.numbers, e.closed);
-            buffer-now = c.reject.ensures.buffer ∙ ap (λ w. our_bytes (own_bytes w) code.PeerUnreachable 0 0 ++ drop (length (our_bytes (own_bytes w) code.PeerUnreachable 0 0)) c.args.buffer.now) e.kept.own;
+            buffer_now = c.reject.ensures.buffer ∙ ap (λ w. our_bytes (own_bytes w) code.PeerUnreachable 0 0 ++ drop (length (our_bytes (own_bytes w) code.PeerUnreachable 0 0)) c.args.buffer.now) e.kept.own;
           });
       kept = e.kept;
       unchanged = tt;
