@@ -1,10 +1,14 @@
 -- The parts of an address, one after another. Assumes nothing.
-use Rattle.std.proofs.Common.{◌≡◌, ℕ, suc, ◌<◌, ◌≤◌, Bool, true, false, cond, ◌&&◌, eqb, ltb, List, [], ◌∷◌, length, take, drop, sym, refl, ap, ◌∙◌, arith}
+use Rattle.std.proofs.Common.{◌≡◌, ℕ, suc, ◌<◌, ◌≤◌, Bool, true, false, cond, ◌&&◌, ◌||◌, eqb, ltb, List, [], ◌∷◌, length, take, drop, sym, refl, ap, ◌∙◌, arith}
+use Rattle.std.specs.List.{list_all}
+use Rattle.std.specs.Prelude.{codes}
+use Rattle.std.specs.Str.{bytes_eq}
+use Rattle.std.proofs.Math.Bool.{or_assoc, or-false}
 use Rattle.std.proofs.lemmas.List.{length-drop}
 use Rattle.std.proofs.lemmas.Bool.Decides.{nat_tests}
 use Rattle.std.proofs.lemmas.Bool.{both_ways}
 use Rattle.wire.specs.Reading.{At, at, forward, before, begins_with}
-use Rattle.address.specs.Addresses.{dot, is_scheme, is_segment, all_segments, longer_first, parts, rest_segments, scheme_first, scheme_and_more, is_address}
+use Rattle.address.specs.Addresses.{dot, is_scheme, is_symbol, all_symbols, is_segment, all_segments, longer_first, parts, rest_segments, scheme_first, scheme_and_more, is_address}
 
 -- the parts after the first, of the bytes from the first dot on
 abbrev pub after_dot : List ℕ → List (List ℕ)
@@ -79,3 +83,12 @@ address_read s a b start e =
 pub address-short : (s : List ℕ) → is_address s ≡ true → length s ≤ 1023
 unfolding is_address
 address-short s e = grind (arith, nat_tests)
+
+-- each byte is a symbol
+pub symbols-all : (s : List ℕ) → all_symbols s ≡ list_all is_symbol s
+symbols-all [] = refl
+symbols-all (b ∷ bs) = ap (λ t. is_symbol b && t) (symbols-all bs)
+
+-- the schemes, looked for in a table
+pub scheme_among : (s : List ℕ) → (bytes_eq s (codes "g") || (bytes_eq s (codes "private") || (bytes_eq s (codes "example") || (bytes_eq s (codes "peer") || (bytes_eq s (codes "self") || (bytes_eq s (codes "test") || (bytes_eq s (codes "test1") || (bytes_eq s (codes "test2") || (bytes_eq s (codes "test3") || (bytes_eq s (codes "local") || false)))))))))) ≡ is_scheme s
+scheme_among s = simp (or_assoc, or-false) refl

@@ -3,11 +3,14 @@ ghost use Rattle.std.specs.Prelude.{◌≡◌};
 ghost use Rattle.wire.specs.Reading.{standing};
 ghost use Rattle.address.specs.Addresses.{is_scheme, is_symbol, is_segment, rest_segments, is_address, is_prefix};
 
-use wire::compare::same_bytes;
 use wire::reader::Reader;
 
 // The longest address.
 pub const MOST: usize = 1023;
+
+const SCHEMES: [&'static [u8]; 10] = [
+    b"g", b"private", b"example", b"peer", b"self", b"test", b"test1", b"test2", b"test3", b"local",
+];
 
 fn is_symbol(b: u8) -> bool
     ensures { result ≡ is_symbol b }
@@ -18,27 +21,13 @@ fn is_symbol(b: u8) -> bool
 fn is_segment(part: &[u8]) -> bool
     ensures { result ≡ is_segment part.now }
 {
-    for b in part {
-        if !is_symbol(*b) {
-            return false;
-        }
-    }
-    part.len() > 0
+    !part.is_empty() && part.iter().all(|b| is_symbol(*b))
 }
 
 fn is_scheme(part: &[u8]) -> bool
     ensures { result ≡ is_scheme part.now }
 {
-    same_bytes(part, b"g")
-        || same_bytes(part, b"private")
-        || same_bytes(part, b"example")
-        || same_bytes(part, b"peer")
-        || same_bytes(part, b"self")
-        || same_bytes(part, b"test")
-        || same_bytes(part, b"test1")
-        || same_bytes(part, b"test2")
-        || same_bytes(part, b"test3")
-        || same_bytes(part, b"local")
+    SCHEMES.iter().any(|scheme| part == *scheme)
 }
 
 // Zero or more segments, each behind its dot, up to the end.
@@ -66,5 +55,5 @@ pub fn is_prefix(bytes: &[u8]) -> bool
 {
     let mut reader = Reader::new(bytes);
     let scheme = reader.until(b'.');
-    bytes.len() == 0 || is_scheme(scheme) && has_segments(&mut reader)
+    bytes.is_empty() || is_scheme(scheme) && has_segments(&mut reader)
 }

@@ -58,14 +58,6 @@ time-from t h = grind (arith, nat_tests)
 
 -- ALL DIGITS
 
-pub digits_more : (s : List ℕ) (i : ℕ) → i < length s → all_digits (drop i s) ≡ (is_digit (get_or s i 0) && all_digits (drop (i + 1) s))
-unfolding all_digits
-digits_more s i h = at_drop_more all_digits s i 0 h
-
-pub digits-all : (s : List ℕ) (i : ℕ) → length s ≤ i → all_digits (drop i s) ≡ true
-unfolding all_digits
-digits-all s i h = at_drop_all all_digits s i h
-
 -- the byte at i is a digit
 IsDigit : List ℕ → ℕ → Type 0
 IsDigit bs i = (48 ≤ get_or bs i 0) × (get_or bs i 0 ≤ 57)

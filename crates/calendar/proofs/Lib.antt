@@ -1,3 +1,4 @@
+pub mod Numbers
 mod Counting
 mod Examples
 mod Fields

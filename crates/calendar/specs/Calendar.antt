@@ -98,9 +98,13 @@ unfoldable pub all_digits : List ℕ → Bool
 all_digits [] = true
 all_digits (b ∷ bs) = is_digit b && all_digits bs
 
--- the value of the digit at i, and of two, three and four digits from i on
+-- the value of the digit at i, and of so many digits from i on
 abbrev pub one_at : List ℕ → ℕ → ℕ
 one_at bs i = slice_index bs i - 48
+
+unfoldable pub number_at : List ℕ → ℕ → ℕ → ℕ
+number_at bs i zero = 0
+number_at bs i (suc n) = number_at bs i n * 10 + one_at bs (i + n)
 
 abbrev pub two_at : List ℕ → ℕ → ℕ
 two_at bs i = one_at bs i * 10 + one_at bs (i + 1)

@@ -1,50 +1,26 @@
 // The 17 digits YYYYMMDDHHmmSSfff, read and written without asking whether they say a day of the calendar.
-ghost use Rattle.std.specs.Prelude.{◌≡◌, ◌+◌, ◌<◌, length};
-ghost use Rattle.calendar.specs.Calendar.{all_digits, digit_byte, fields_of, four_at, one_at, three_at, two_at, written};
+ghost use Rattle.std.specs.Prelude.{◌≡◌, ◌+◌, ◌≤◌, length};
+ghost use Rattle.calendar.specs.Calendar.{all_digits, digit_byte, fields_of, number_at, written};
 
 use crate::civil::DateTime;
 
 pub(crate) fn all_digits(digits: &[u8]) -> bool
     ensures { result ≡ all_digits digits.now }
 {
-    for b in digits {
-        if *b < b'0' || *b > b'9' {
-            return false;
-        }
+    digits.iter().all(u8::is_ascii_digit)
+}
+
+/// The number that `count` digits say from the place `at` on. Its bounds are those of any bytes, so that no sum wraps.
+fn number_at(digits: &[u8], at: usize, count: usize) -> u32
+    requires few { count ≤ 4 }
+    requires there { at + count ≤ length digits.now }
+    ensures { result ≡ number_at digits.now at count }
+{
+    let mut number = 0;
+    for digit in &digits[at..at + count] {
+        number = number * 10 + u32::from(digit.saturating_sub(b'0'));
     }
-    true
-}
-
-/// The value of the digit at `i`. The bounds here and below are those of any bytes, so that no sum wraps.
-fn one_at(digits: &[u8], i: usize) -> u32
-    requires { i < length digits.now }
-    ensures value { result ≡ one_at digits.now i }
-    ensures small { result < 256 }
-{
-    u32::from(digits[i].saturating_sub(b'0'))
-}
-
-fn two_at(digits: &[u8], i: usize) -> u32
-    requires { i + 1 < length digits.now }
-    ensures value { result ≡ two_at digits.now i }
-    ensures small { result < 65536 }
-{
-    one_at(digits, i) * 10 + one_at(digits, i + 1)
-}
-
-fn three_at(digits: &[u8], i: usize) -> u32
-    requires { i + 2 < length digits.now }
-    ensures value { result ≡ three_at digits.now i }
-    ensures small { result < 1048576 }
-{
-    two_at(digits, i) * 10 + one_at(digits, i + 2)
-}
-
-fn four_at(digits: &[u8], i: usize) -> u32
-    requires { i + 3 < length digits.now }
-    ensures { result ≡ four_at digits.now i }
-{
-    three_at(digits, i) * 10 + one_at(digits, i + 3)
+    number
 }
 
 /// What the digits say, field by field.
@@ -53,13 +29,13 @@ pub(crate) fn fields_of(digits: &[u8]) -> DateTime
     ensures { result ≡ fields_of digits.now }
 {
     DateTime {
-        year: four_at(digits, 0),
-        month: two_at(digits, 4),
-        day: two_at(digits, 6),
-        hour: two_at(digits, 8),
-        minute: two_at(digits, 10),
-        second: two_at(digits, 12),
-        millisecond: three_at(digits, 14),
+        year: number_at(digits, 0, 4),
+        month: number_at(digits, 4, 2),
+        day: number_at(digits, 6, 2),
+        hour: number_at(digits, 8, 2),
+        minute: number_at(digits, 10, 2),
+        second: number_at(digits, 12, 2),
+        millisecond: number_at(digits, 14, 3),
     }
 }
 

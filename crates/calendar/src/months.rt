@@ -13,7 +13,8 @@ fn month_lengths(year: u32) -> [u32; 12]
 }
 
 pub(crate) fn month_length(year: u32, month: u32) -> u32
-    requires { (1 ≤ month) × (month ≤ 12) }
+    requires first { 1 ≤ month }
+    requires last { month ≤ 12 }
     ensures { result ≡ month_length year month }
 {
     let lengths = month_lengths(year);
@@ -22,7 +23,8 @@ pub(crate) fn month_length(year: u32, month: u32) -> u32
 
 /// From the first day of the year to the first of the month.
 pub(crate) fn days_before_month(year: u32, month: u32) -> u32
-    requires { (1 ≤ month) × (month ≤ 12) }
+    requires first { 1 ≤ month }
+    requires last { month ≤ 12 }
     ensures { result ≡ days_before_month year month }
 {
     let mut days = 0;

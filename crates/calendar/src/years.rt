@@ -12,7 +12,8 @@ pub(crate) fn is_leap(year: u32) -> bool
 /// From 1970-01-01 to the first day of the year: 365 days for each year, and one more for each leap year. Of those
 /// there were 477 before 1970.
 pub(crate) fn days_before_year(year: u32) -> u32
-    requires { (1970 ≤ year) × (year ≤ 10000) }
+    requires first { 1970 ≤ year }
+    requires last { year ≤ 10000 }
     ensures { result ≡ days_before_year year }
 {
     let past = year - 1;

@@ -1,3 +1,4 @@
+mod TypeByte
 pub mod Codec
 pub mod Contents
 pub mod Packets

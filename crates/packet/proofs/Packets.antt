@@ -10,8 +10,8 @@ use Rattle.wire.specs.Writing.{determinant_of, field_bytes}
 use Rattle.wire.proofs.Written.{determinant-short}
 use Rattle.calendar.proofs.Timestamps.{one-timestamp}
 use Rattle.address.proofs.Split.{address-short}
-use Rattle.packet.specs.declared.value.Kind.{Kind}
-use Rattle.packet.specs.declared.value.Kind.TheVariants as kind
+use Rattle.packet.specs.declared.kind.Kind.{Kind}
+use Rattle.packet.specs.declared.kind.Kind.TheVariants as kind
 use Rattle.packet.specs.Values.{PacketValue, prepare, fulfill, reject, kind_of}
 use Rattle.packet.specs.Encoding.{type_byte, content_bytes, packet_bytes, WellFormed}
 use Rattle.packet.specs.Fields.{read_prepare, read_fulfill, read_reject}

@@ -1,11 +1,11 @@
 -- The encoding of a packet, and which packets have one. Assumes nothing.
-use Rattle.std.specs.Prelude.{◌≡◌, ℕ, ◌/◌, ◌%◌, ◌^◌, ◌<◌, ◌≤◌, Bool, true, ◌||◌, List, [], ◌∷◌, ◌++◌, length, ◌==◌}
+use Rattle.std.specs.Prelude.{◌≡◌, ◌≢◌, Ok, Err, Result, ℕ, ◌/◌, ◌%◌, ◌^◌, ◌<◌, ◌≤◌, Bool, true, ◌||◌, List, [], ◌∷◌, ◌++◌, length, ◌==◌}
 use Rattle.wire.specs.Codes.{is_code}
 use Rattle.wire.specs.Writing.{field_bytes}
 use Rattle.calendar.specs.Calendar.{digits_of, last_instant}
 use Rattle.address.specs.Addresses.{is_address}
-use Rattle.packet.specs.declared.value.Kind.{Kind}
-use Rattle.packet.specs.declared.value.Kind.TheVariants as kind
+use Rattle.packet.specs.declared.kind.Kind.{Kind}
+use Rattle.packet.specs.declared.kind.Kind.TheVariants as kind
 use Rattle.packet.specs.Values.{PrepareValue, FulfillValue, RejectValue, PacketValue, prepare, fulfill, reject, kind_of}
 
 -- the first byte of a packet
@@ -13,6 +13,11 @@ abbrev pub type_byte : Kind → ℕ
 type_byte kind.Prepare = 0x0C
 type_byte kind.Fulfill = 0x0D
 type_byte kind.Reject = 0x0E
+
+-- a byte says the kind whose type byte it is, and no kind if it is none's
+abbrev pub SaysKind : {E : Type 0} → ℕ → Result Kind E → Type 0
+SaysKind b (Ok k) = type_byte k ≡ b
+SaysKind b (Err e) = (k : Kind) → type_byte k ≢ b
 
 -- a number in eight bytes, the high one first
 unfoldable pub amount_bytes : ℕ → List ℕ

@@ -1,6 +1,6 @@
 -- One encoding to a packet. Assumes nothing.
 use Rattle.std.specs.Prelude.{◌≡◌, ℕ, ◌<◌, Bool, true, List, Ok, slice_index}
-use Rattle.packet.specs.declared.value.Kind.{Kind}
+use Rattle.packet.specs.declared.kind.Kind.{Kind}
 use Rattle.packet.specs.Values.{PacketValue, kind_of}
 use Rattle.packet.specs.Encoding.{packet_bytes, WellFormed}
 use Rattle.packet.specs.Readers.{read_as}

@@ -4,8 +4,8 @@ use Rattle.wire.specs.declared.fault.Fault.{Fault}
 use Rattle.wire.specs.declared.fault.Layer.TheVariants.{Field, Wrapper}
 use Rattle.wire.specs.declared.fault.Cause.TheVariants.{NoBytes, WrongType, CutDeterminant, WrongLength, LeftOver}
 use Rattle.wire.specs.Reading.{At, Read, at, forward, and_then, fails, has, byte, determinant}
-use Rattle.packet.specs.declared.value.Kind.{Kind}
-use Rattle.packet.specs.declared.value.Kind.TheVariants as kind
+use Rattle.packet.specs.declared.kind.Kind.{Kind}
+use Rattle.packet.specs.declared.kind.Kind.TheVariants as kind
 use Rattle.packet.specs.declared.value.Prepare.{Prepare}
 use Rattle.packet.specs.Values.{PacketValue, prepare, fulfill, reject, prepare_of}
 use Rattle.packet.specs.Fields.{read_prepare, read_fulfill, read_reject}

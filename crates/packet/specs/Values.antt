@@ -7,8 +7,8 @@ use Rattle.packet.specs.declared.value.Packet.{Packet}
 use Rattle.packet.specs.declared.value.Packet.TheVariants as packet
 use Rattle.packet.specs.declared.value.Answer.{Answer}
 use Rattle.packet.specs.declared.value.Answer.TheVariants as answer
-use Rattle.packet.specs.declared.value.Kind.{Kind}
-use Rattle.packet.specs.declared.value.Kind.TheVariants as kind
+use Rattle.packet.specs.declared.kind.Kind.{Kind}
+use Rattle.packet.specs.declared.kind.Kind.TheVariants as kind
 
 -- `payload` is the field that the format calls data
 pub record PrepareValue : Type 0 where

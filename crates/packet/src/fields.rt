@@ -14,8 +14,8 @@ use wire::reader::Reader;
 fn amount(reader: &mut Reader<'_>) -> Result<u64, Fault>
     ensures { Reads (λ n. n) result (read_amount (standing reader.old)) (standing reader.new) }
 {
-    let s = reader.fixed(8)?;
-    Ok(u64::from_be_bytes([s[0], s[1], s[2], s[3], s[4], s[5], s[6], s[7]]))
+    let bytes = reader.array()?;
+    Ok(u64::from_be_bytes(*bytes))
 }
 
 fn expiry(reader: &mut Reader<'_>) -> Result<u64, Fault>
@@ -23,10 +23,7 @@ fn expiry(reader: &mut Reader<'_>) -> Result<u64, Fault>
 {
     let invalid = reader.fault(Layer::Calendar, Cause::InvalidInstant);
     let digits = reader.fixed(17)?;
-    match read_timestamp(digits) {
-        Some(instant) => Ok(instant),
-        None => Err(invalid),
-    }
+    read_timestamp(digits).ok_or(invalid)
 }
 
 fn code<'a>(reader: &mut Reader<'a>) -> Result<&'a [u8], Fault>

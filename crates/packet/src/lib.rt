@@ -2,5 +2,6 @@
 #![tactic(auto)]
 
 mod fields;
+pub mod kind;
 pub mod reading;
 pub mod value;

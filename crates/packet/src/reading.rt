@@ -8,7 +8,8 @@ ghost use Rattle.packet.specs.Readers.{read_kind, read_length, read_end, wholly,
 ghost use Rattle.packet.specs.OneEncoding.{OneEncoding};
 
 use crate::fields::{fulfill, prepare, reject};
-use crate::value::{Answer, Fulfill, Kind, Packet, Prepare, Reject};
+use crate::kind::Kind;
+use crate::value::{Answer, Fulfill, Packet, Prepare, Reject};
 use wire::fault::{Cause, Fault, Layer};
 use wire::reader::Reader;
 
@@ -21,19 +22,10 @@ const WRONG_TYPE: Fault = Fault {
 fn kind(reader: &mut Reader<'_>) -> Result<Kind, Fault>
     ensures { Reads (λ k. k) result (read_kind (standing reader.old)) (standing reader.new) }
 {
-    if reader.skip(0x0C) {
-        return Ok(Kind::Prepare);
-    }
-    if reader.skip(0x0D) {
-        return Ok(Kind::Fulfill);
-    }
-    if reader.skip(0x0E) {
-        return Ok(Kind::Reject);
-    }
-    if reader.left() == 0 {
-        return Err(reader.fault(Layer::Wrapper, Cause::NoBytes));
-    }
-    Err(reader.fault(Layer::Wrapper, Cause::WrongType))
+    let none = reader.fault(Layer::Wrapper, Cause::NoBytes);
+    let wrong = reader.fault(Layer::Wrapper, Cause::WrongType);
+    let [byte] = reader.array::<1>().or(Err(none))?;
+    Kind::try_from(*byte).or(Err(wrong))
 }
 
 // The determinant of the content, which is to be as long as all that is left.

@@ -4,13 +4,6 @@ pub const LONGEST_DATA: usize = 32_767;
 
 pub const LONGEST_MESSAGE: usize = 8_191;
 
-#[derive(Clone, Copy)]
-pub enum Kind {
-    Prepare,
-    Fulfill,
-    Reject,
-}
-
 // The expiry is an instant: milliseconds since 1970 began.
 #[derive(Clone, Copy)]
 pub struct Prepare<'a> {

@@ -1,7 +1,7 @@
 -- What is written is read again. Assumes nothing.
 use Rattle.std.proofs.Common.{◌≡◌, ℕ, Bool, true, List, take, IfOk, Ok, Err, Result, sym, ap, ◌∙◌}
 use Rattle.std.proofs.lemmas.List.{take_at}
-use Rattle.packet.specs.declared.value.Kind.{Kind}
+use Rattle.packet.specs.declared.kind.Kind.{Kind}
 use Rattle.packet.specs.Values.{PacketValue, kind_of}
 use Rattle.packet.specs.Encoding.{packet_bytes}
 use Rattle.packet.specs.Readers.{read_as}

@@ -1,5 +1,5 @@
 -- The reject codes. Assumes nothing.
-use Rattle.std.specs.Prelude.{ℕ, Bool, ◌&&◌, ◌||◌, List, length, codes, ◌==◌, nat_le, slice_index}
+use Rattle.std.specs.Prelude.{◌≡◌, ◌≢◌, ℕ, Ok, Err, Result, Bool, ◌&&◌, ◌||◌, List, length, codes, ◌==◌, nat_le, slice_index}
 use Rattle.wire.specs.declared.code.RejectCode.{RejectCode}
 use Rattle.wire.specs.declared.code.RejectCode.TheVariants.{BadRequest, InvalidPacket, Unreachable, InvalidAmount, InsufficientDestinationAmount, WrongCondition, UnexpectedPayment, CannotReceive, AmountTooLarge, FinalApplicationError, InternalError, PeerUnreachable, PeerBusy, ConnectorBusy, InsufficientLiquidity, RateLimited, TemporaryApplicationError, TransferTimedOut, InsufficientSourceAmount, InsufficientTimeout, RelativeApplicationError}
 
@@ -26,6 +26,11 @@ code_bytes TransferTimedOut = codes "R00"
 code_bytes InsufficientSourceAmount = codes "R01"
 code_bytes InsufficientTimeout = codes "R02"
 code_bytes RelativeApplicationError = codes "R99"
+
+-- bytes name the code that has them, and none if no code has
+abbrev pub NamesCode : {E : Type 0} → List ℕ → Result RejectCode E → Type 0
+NamesCode s (Ok c) = code_bytes c ≡ s
+NamesCode s (Err e) = (c : RejectCode) → code_bytes c ≢ s
 
 abbrev pub is_digit : ℕ → Bool
 is_digit b = nat_le 48 b && nat_le b 57

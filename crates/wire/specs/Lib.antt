@@ -1,3 +1,4 @@
 pub mod Codes
 pub mod Reading
+pub mod Words
 pub mod Writing

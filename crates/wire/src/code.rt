@@ -1,7 +1,7 @@
 // The 21 codes with which a packet is rejected, under the names that Interledger gives them.
 // F codes are final, T codes may pass on another try, R codes say that the sender's amount or time was not enough.
 ghost use Rattle.std.specs.Prelude.{◌≡◌};
-ghost use Rattle.wire.specs.Codes.{code_bytes, is_code};
+ghost use Rattle.wire.specs.Codes.{code_bytes, is_code, NamesCode};
 
 #[derive(Clone, Copy, Debug)]
 pub enum RejectCode {
@@ -58,6 +58,43 @@ impl RejectCode {
             RejectCode::InsufficientSourceAmount => *b"R01",
             RejectCode::InsufficientTimeout => *b"R02",
             RejectCode::RelativeApplicationError => *b"R99",
+        }
+    }
+}
+
+// Bytes that are none of the 21 codes.
+#[derive(Clone, Copy, Debug)]
+pub struct UnknownCode;
+
+impl TryFrom<&[u8]> for RejectCode {
+    type Error = UnknownCode;
+
+    ghost try_from_gives = { λ s r. NamesCode s.now r };
+
+    fn try_from(bytes: &[u8]) -> Result<Self, UnknownCode> {
+        match bytes {
+            b"F00" => Ok(RejectCode::BadRequest),
+            b"F01" => Ok(RejectCode::InvalidPacket),
+            b"F02" => Ok(RejectCode::Unreachable),
+            b"F03" => Ok(RejectCode::InvalidAmount),
+            b"F04" => Ok(RejectCode::InsufficientDestinationAmount),
+            b"F05" => Ok(RejectCode::WrongCondition),
+            b"F06" => Ok(RejectCode::UnexpectedPayment),
+            b"F07" => Ok(RejectCode::CannotReceive),
+            b"F08" => Ok(RejectCode::AmountTooLarge),
+            b"F99" => Ok(RejectCode::FinalApplicationError),
+            b"T00" => Ok(RejectCode::InternalError),
+            b"T01" => Ok(RejectCode::PeerUnreachable),
+            b"T02" => Ok(RejectCode::PeerBusy),
+            b"T03" => Ok(RejectCode::ConnectorBusy),
+            b"T04" => Ok(RejectCode::InsufficientLiquidity),
+            b"T05" => Ok(RejectCode::RateLimited),
+            b"T99" => Ok(RejectCode::TemporaryApplicationError),
+            b"R00" => Ok(RejectCode::TransferTimedOut),
+            b"R01" => Ok(RejectCode::InsufficientSourceAmount),
+            b"R02" => Ok(RejectCode::InsufficientTimeout),
+            b"R99" => Ok(RejectCode::RelativeApplicationError),
+            _ => Err(UnknownCode),
         }
     }
 }

@@ -6,4 +6,6 @@ pub mod code;
 pub mod compare;
 pub mod fault;
 pub mod reader;
+mod words;
+pub mod writer;
 pub mod writing;

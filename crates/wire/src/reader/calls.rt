@@ -50,6 +50,16 @@ impl<'a> Reader<'a> {
         self.next_bytes(n, short)
     }
 
+    // The same with the number of bytes in the type.
+    pub fn array<const N: usize>(&mut self) -> Result<&'a [u8; N], Fault>
+        ensures { Reads (λ x. x.now) result (fixed N (standing self.old)) (standing self.new) }
+    {
+        let short = self.fault(Layer::Field, Cause::CutShort);
+        let array = self.bytes[self.place..].first_chunk().ok_or(short)?;
+        self.place += N;
+        Ok(array)
+    }
+
     // The length that a determinant says. The layer has its own name for one whose bytes are not all there.
     pub fn determinant(&mut self, layer: Layer, cut: Cause) -> Result<usize, Fault>
         ensures { Reads (λ n. n) result (determinant layer cut (standing self.old)) (standing self.new) }
@@ -91,9 +101,9 @@ impl<'a> Reader<'a> {
         ensures place { standing self.new ≡ forward (before stop (standing self.old).rest) (standing self.old) }
     {
         let rest = &self.bytes[self.place..];
-        let n = count_before(rest, stop);
+        let n = rest.iter().position(|byte| *byte == stop).unwrap_or(rest.len());
         self.place += n;
-        &rest[0..n]
+        &rest[..n]
     }
 
     // Goes over the next byte if it is this one, and says whether it was.
@@ -107,17 +117,4 @@ impl<'a> Reader<'a> {
         self.place += 1;
         true
     }
-}
-
-// How many bytes stand before the first stop byte, or all.
-fn count_before(bytes: &[u8], stop: u8) -> usize
-    ensures value { result ≡ before stop bytes.now }
-    ensures bound { result ≤ length bytes.now }
-{
-    for (i, b) in bytes.iter().enumerate() {
-        if *b == stop {
-            return i;
-        }
-    }
-    bytes.len()
 }

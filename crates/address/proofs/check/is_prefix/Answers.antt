@@ -5,9 +5,9 @@ use Rattle.address.specs.Addresses.{is_prefix}
 use Rattle.address.proofs.Split.{scheme-read}
 use Rattle.address.proofs.check.is_prefix.Goals as goal
 
-pub returns-then-bytes-eq0 : goal.returns-then-bytes-eq0
+pub returns-then-is_empty : goal.returns-then-is_empty
 unfolding is_prefix
-returns-then-bytes-eq0 c = grind (arith, nat_tests)
+returns-then-is_empty c = grind (arith, nat_tests)
 
 pub returns-then-is_scheme : goal.returns-then-is_scheme
 unfolding is_prefix

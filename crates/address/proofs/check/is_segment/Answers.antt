@@ -1,20 +1,14 @@
-use Rattle.std.proofs.Common.{arith}
-use Rattle.std.proofs.lemmas.List.{at_drop_more, at_drop_all}
+use Rattle.std.proofs.Common.{◌≡◌, sym, arith, rules, refl}
+use borrow.Author.Tests.{tests}
 use Rattle.std.proofs.lemmas.Bool.Decides.{nat_tests}
-use Rattle.address.specs.Addresses.{all_symbols}
+use Rattle.std.proofs.lemmas.Iterator.{YieldsList-from_slice}
+use Rattle.std.proofs.lemmas.Iterator.Search.{all_from_yields_List}
+use Rattle.address.specs.Addresses.{is_symbol}
+use Rattle.address.proofs.Split.{symbols-all}
 use Rattle.address.proofs.check.is_segment.Goals as goal
 
-pub returns-then-not-is_symbol : goal.returns-then-not-is_symbol
-returns-then-not-is_symbol c =
-    let e = at_drop_more all_symbols c.args.part.now c.loop-b.b-index 0 (omega arith) in
-    grind (arith, nat_tests)
-
-pub loop-b-preserved : goal.loop-b-preserved
-loop-b-preserved c =
-    let e = at_drop_more all_symbols c.args.part.now c.loop-b.b-index 0 (omega arith) in
-    grind (arith, nat_tests)
-
-pub returns : goal.returns
-returns c =
-    let e = at_drop_all all_symbols c.args.part.now c.loop-b.b-index (omega arith) in
+pub returns-then-not-is_empty : goal.returns-then-not-is_empty
+returns-then-not-is_empty c =
+    let found = all_from_yields_List is_symbol _ _ c.all.result c.all.ensures.ran (YieldsList-from_slice _ c.iter.ensures.rest) (λ x b q k. search (rules, tests)) in
+    let same = symbols-all c.args.part.now in
     grind (arith, nat_tests)

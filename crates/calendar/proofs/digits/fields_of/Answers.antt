@@ -1,6 +1,5 @@
-use Rattle.calendar.specs.Calendar.{fields_of}
+use Rattle.calendar.proofs.Numbers.{fields_read}
 use Rattle.calendar.proofs.digits.fields_of.Goals as goal
 
 pub returns : goal.returns
-unfolding fields_of
-returns c = cc
+returns c = let e = fields_read c.args.digits.now in cc

@@ -1,4 +1,5 @@
-use Rattle.std.proofs.Common.{rules}
+use Rattle.std.proofs.Common.{rules, arith}
+use Rattle.std.proofs.lemmas.Grind.{common_steps}
 use Rattle.packet.specs.Fields.{read_expiry}
 use Rattle.packet.proofs.fields.expiry.Goals as goal
 
@@ -6,10 +7,6 @@ pub returns-in_err-digits : goal.returns-in_err-digits
 unfolding read_expiry
 returns-in_err-digits c = search rules
 
-pub returns-in-Some : goal.returns-in-Some
+pub returns : goal.returns
 unfolding read_expiry
-returns-in-Some c = search rules
-
-pub returns-in-None : goal.returns-in-None
-unfolding read_expiry
-returns-in-None c = search rules
+returns c = grind (arith, common_steps)
