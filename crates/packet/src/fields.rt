@@ -1,9 +1,10 @@
 // The fields and the contents of packets. A reader goes over them in order, and the first fault ends it.
 ghost use Rattle.std.specs.Prelude.{◌≡◌};
 ghost use Rattle.wire.specs.Reading.{standing, Reads};
-ghost use Rattle.packet.specs.Values.{prepare_of, fulfill_of, reject_of};
+ghost use Rattle.packet.specs.Values.{PrepareValue, FulfillValue, RejectValue, prepare_of, fulfill_of, reject_of};
 ghost use Rattle.packet.specs.Fields.{read_amount, read_expiry, read_code, read_destination, read_trigger, read_prepare, read_fulfill, read_reject};
 
+use crate::content::Content;
 use crate::value::{Fulfill, LONGEST_DATA, LONGEST_MESSAGE, Prepare, Reject};
 use address::check::{MOST as LONGEST_ADDRESS, is_address};
 use calendar::read_timestamp;
@@ -31,10 +32,7 @@ fn code<'a>(reader: &mut Reader<'a>) -> Result<&'a [u8], Fault>
 {
     let bad = reader.fault(Layer::Field, Cause::BadCode);
     let bytes = reader.fixed(3)?;
-    if !is_code(bytes) {
-        return Err(bad);
-    }
-    Ok(bytes)
+    is_code(bytes).then_some(bytes).ok_or(bad)
 }
 
 fn destination<'a>(reader: &mut Reader<'a>) -> Result<&'a [u8], Fault>
@@ -42,10 +40,7 @@ fn destination<'a>(reader: &mut Reader<'a>) -> Result<&'a [u8], Fault>
 {
     let invalid = reader.fault(Layer::Address, Cause::InvalidAddress);
     let bytes = reader.field(LONGEST_ADDRESS)?;
-    if !is_address(bytes) {
-        return Err(invalid);
-    }
-    Ok(bytes)
+    is_address(bytes).then_some(bytes).ok_or(invalid)
 }
 
 // Who rejected: an address, or nothing.
@@ -54,48 +49,56 @@ fn triggered_by<'a>(reader: &mut Reader<'a>) -> Result<&'a [u8], Fault>
 {
     let invalid = reader.fault(Layer::Address, Cause::InvalidAddress);
     let bytes = reader.field(LONGEST_ADDRESS)?;
-    if bytes.len() > 0 && !is_address(bytes) {
-        return Err(invalid);
+    let valid = bytes.is_empty() || is_address(bytes);
+    valid.then_some(bytes).ok_or(invalid)
+}
+
+impl<'a> Content<'a> for Prepare<'a> {
+    ghost Value = { PrepareValue };
+
+    ghost value = { prepare_of };
+
+    ghost reading = { read_prepare };
+
+    fn read(reader: &mut Reader<'a>) -> Result<Self, Fault> {
+        Ok(Prepare {
+            amount: amount(reader)?,
+            expiry: expiry(reader)?,
+            condition: reader.fixed(32)?,
+            destination: destination(reader)?,
+            data: reader.field(LONGEST_DATA)?,
+        })
     }
-    Ok(bytes)
 }
 
-pub(crate) fn prepare<'a>(reader: &mut Reader<'a>) -> Result<Prepare<'a>, Fault>
-    ensures { Reads prepare_of result (read_prepare (standing reader.old)) (standing reader.new) }
-{
-    let amount = amount(reader)?;
-    let expiry = expiry(reader)?;
-    let condition = reader.fixed(32)?;
-    let destination = destination(reader)?;
-    let data = reader.field(LONGEST_DATA)?;
-    Ok(Prepare {
-        amount,
-        expiry,
-        condition,
-        destination,
-        data,
-    })
+impl<'a> Content<'a> for Fulfill<'a> {
+    ghost Value = { FulfillValue };
+
+    ghost value = { fulfill_of };
+
+    ghost reading = { read_fulfill };
+
+    fn read(reader: &mut Reader<'a>) -> Result<Self, Fault> {
+        Ok(Fulfill {
+            fulfilment: reader.fixed(32)?,
+            data: reader.field(LONGEST_DATA)?,
+        })
+    }
 }
 
-pub(crate) fn fulfill<'a>(reader: &mut Reader<'a>) -> Result<Fulfill<'a>, Fault>
-    ensures { Reads fulfill_of result (read_fulfill (standing reader.old)) (standing reader.new) }
-{
-    let fulfilment = reader.fixed(32)?;
-    let data = reader.field(LONGEST_DATA)?;
-    Ok(Fulfill { fulfilment, data })
-}
+impl<'a> Content<'a> for Reject<'a> {
+    ghost Value = { RejectValue };
 
-pub(crate) fn reject<'a>(reader: &mut Reader<'a>) -> Result<Reject<'a>, Fault>
-    ensures { Reads reject_of result (read_reject (standing reader.old)) (standing reader.new) }
-{
-    let code = code(reader)?;
-    let triggered_by = triggered_by(reader)?;
-    let message = reader.field(LONGEST_MESSAGE)?;
-    let data = reader.field(LONGEST_DATA)?;
-    Ok(Reject {
-        code,
-        triggered_by,
-        message,
-        data,
-    })
+    ghost value = { reject_of };
+
+    ghost reading = { read_reject };
+
+    fn read(reader: &mut Reader<'a>) -> Result<Self, Fault> {
+        Ok(Reject {
+            code: code(reader)?,
+            triggered_by: triggered_by(reader)?,
+            message: reader.field(LONGEST_MESSAGE)?,
+            data: reader.field(LONGEST_DATA)?,
+        })
+    }
 }

@@ -2,7 +2,7 @@
 ghost use Rattle.std.specs.Prelude.{◌≡◌};
 ghost use Rattle.packet.specs.Encoding.{type_byte, SaysKind};
 
-#[derive(Clone, Copy)]
+#[derive(Clone, Copy, Debug, PartialEq, Eq)]
 pub enum Kind {
     Prepare = 0x0C,
     Fulfill = 0x0D,
@@ -19,7 +19,7 @@ impl Kind {
 }
 
 // A byte that is no type byte.
-#[derive(Clone, Copy, Debug)]
+#[derive(Clone, Copy, Debug, PartialEq, Eq)]
 pub struct UnknownKind;
 
 impl TryFrom<u8> for Kind {

@@ -7,7 +7,7 @@ ghost use Rattle.packet.specs.Fields.{read_prepare, read_fulfill, read_reject};
 ghost use Rattle.packet.specs.Readers.{read_kind, read_length, read_end, wholly, read_result, asked, read_as, any_kind, prepare_kind, answer_kind, valued, prepare_value};
 ghost use Rattle.packet.specs.OneEncoding.{OneEncoding};
 
-use crate::fields::{fulfill, prepare, reject};
+use crate::content::Content;
 use crate::kind::Kind;
 use crate::value::{Answer, Fulfill, Packet, Prepare, Reject};
 use wire::fault::{Cause, Fault, Layer};
@@ -49,31 +49,14 @@ fn end(reader: &Reader<'_>) -> Result<(), Fault>
     Ok(())
 }
 
-fn whole_prepare<'a>(reader: &mut Reader<'a>) -> Result<Prepare<'a>, Fault>
-    ensures { Reads prepare_of result (wholly read_prepare (standing reader.old)) (standing reader.new) }
+// A content behind its length, with nothing left over.
+fn whole<'a, C: Content<'a>>(reader: &mut Reader<'a>) -> Result<C, Fault>
+    ensures { Reads C.value result (wholly C.reading (standing reader.old)) (standing reader.new) }
 {
     content_length(reader)?;
-    let packet = prepare(reader)?;
+    let content = C::read(reader)?;
     end(reader)?;
-    Ok(packet)
-}
-
-fn whole_fulfill<'a>(reader: &mut Reader<'a>) -> Result<Fulfill<'a>, Fault>
-    ensures { Reads fulfill_of result (wholly read_fulfill (standing reader.old)) (standing reader.new) }
-{
-    content_length(reader)?;
-    let packet = fulfill(reader)?;
-    end(reader)?;
-    Ok(packet)
-}
-
-fn whole_reject<'a>(reader: &mut Reader<'a>) -> Result<Reject<'a>, Fault>
-    ensures { Reads reject_of result (wholly read_reject (standing reader.old)) (standing reader.new) }
-{
-    content_length(reader)?;
-    let packet = reject(reader)?;
-    end(reader)?;
-    Ok(packet)
+    Ok(content)
 }
 
 fn parse_packet(bytes: &[u8]) -> Result<Packet<'_>, Fault>
@@ -81,9 +64,9 @@ fn parse_packet(bytes: &[u8]) -> Result<Packet<'_>, Fault>
 {
     let mut reader = Reader::new(bytes);
     match kind(&mut reader)? {
-        Kind::Prepare => Ok(Packet::Prepare(whole_prepare(&mut reader)?)),
-        Kind::Fulfill => Ok(Packet::Fulfill(whole_fulfill(&mut reader)?)),
-        Kind::Reject => Ok(Packet::Reject(whole_reject(&mut reader)?)),
+        Kind::Prepare => Ok(Packet::Prepare(whole(&mut reader)?)),
+        Kind::Fulfill => Ok(Packet::Fulfill(whole(&mut reader)?)),
+        Kind::Reject => Ok(Packet::Reject(whole(&mut reader)?)),
     }
 }
 
@@ -92,7 +75,7 @@ fn parse_prepare(bytes: &[u8]) -> Result<Prepare<'_>, Fault>
 {
     let mut reader = Reader::new(bytes);
     match kind(&mut reader)? {
-        Kind::Prepare => whole_prepare(&mut reader),
+        Kind::Prepare => whole(&mut reader),
         Kind::Fulfill | Kind::Reject => Err(WRONG_TYPE),
     }
 }
@@ -103,8 +86,8 @@ fn parse_answer(bytes: &[u8]) -> Result<Answer<'_>, Fault>
     let mut reader = Reader::new(bytes);
     match kind(&mut reader)? {
         Kind::Prepare => Err(WRONG_TYPE),
-        Kind::Fulfill => Ok(Answer::Fulfill(whole_fulfill(&mut reader)?)),
-        Kind::Reject => Ok(Answer::Reject(whole_reject(&mut reader)?)),
+        Kind::Fulfill => Ok(Answer::Fulfill(whole(&mut reader)?)),
+        Kind::Reject => Ok(Answer::Reject(whole(&mut reader)?)),
     }
 }
 

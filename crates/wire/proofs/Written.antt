@@ -30,3 +30,10 @@ written h = record { is = rw zero-add at h.is; end = omega arith }
 pub determinant-short : (n : ℕ) → length (determinant_of n) ≤ 3
 unfolding determinant_of
 determinant-short n = grind (arith, nat_tests)
+
+-- what a writer wrote from its start on stands in front of the buffer that it was over
+pub written_over : {b c a d xs ys : List ℕ} {p q n : ℕ} → c ≡ b → p ≡ 0 → n ≡ q → xs ≡ ys → Wrote c p xs a q → d ≡ a → Written b ys d n
+written_over {b} {c} {a} {d} {xs} {ys} {p} {q} {n} same start end bytes h last =
+    let front = rw (same, start) at h in
+    let w = written front in
+    record { is = last ∙ subst (λ l. a ≡ l ++ drop (length l) b) bytes w.is; end = end ∙ subst (λ l. q ≡ length l) bytes w.end }

@@ -43,7 +43,11 @@ impl fmt::Display for Fault {
     ghost output = { λ e. Some (fault_words e) };
 
     fn fmt<W: fmt::Write>(&self, f: &mut fmt::Formatter<W>) -> fmt::Result {
-        write!(f, "{} fault at byte {}: {}", self.layer, self.offset, self.cause)
+        write!(
+            f,
+            "{} fault at byte {}: {}",
+            self.layer, self.offset, self.cause
+        )
     }
 }
 

@@ -101,7 +101,10 @@ impl<'a> Reader<'a> {
         ensures place { standing self.new ≡ forward (before stop (standing self.old).rest) (standing self.old) }
     {
         let rest = &self.bytes[self.place..];
-        let n = rest.iter().position(|byte| *byte == stop).unwrap_or(rest.len());
+        let n = rest
+            .iter()
+            .position(|byte| *byte == stop)
+            .unwrap_or(rest.len());
         self.place += n;
         &rest[..n]
     }

@@ -8,6 +8,7 @@ impl<'a> Writer<'a> {
     pub fn new(out: &'a mut [u8]) -> Writer<'a>
         ensures over { result.out.ghost_name ≡ out.entry.ghost_name }
         ensures buffer { result.out.now ≡ out.old }
+        ensures size { length result.out.now ≡ length out.old }
         ensures place { result.place ≡ 0 }
     {
         Writer { out, place: 0 }
@@ -23,6 +24,7 @@ impl<'a> Writer<'a> {
     pub fn put(&mut self, bytes: &[u8])
         requires { self.old.place + length bytes.now ≤ length self.old.out.now }
         ensures over { self.new.out.ghost_name ≡ self.old.out.ghost_name }
+        ensures size { length self.new.out.now ≡ length self.old.out.now }
         ensures wrote { Wrote self.old.out.now self.old.place bytes.now self.new.out.now self.new.place }
     {
         let Writer { out, place } = self;
@@ -36,6 +38,7 @@ impl<'a> Writer<'a> {
         requires small { n < 65536 }
         requires room { self.old.place + 3 ≤ length self.old.out.now }
         ensures over { self.new.out.ghost_name ≡ self.old.out.ghost_name }
+        ensures size { length self.new.out.now ≡ length self.old.out.now }
         ensures wrote { Wrote self.old.out.now self.old.place (determinant_of n) self.new.out.now self.new.place }
         ensures place { self.new.place ≤ self.old.place + 3 }
     {
@@ -53,6 +56,7 @@ impl<'a> Writer<'a> {
         requires small { length bytes.now < 65536 }
         requires room { self.old.place + length bytes.now + 3 ≤ length self.old.out.now }
         ensures over { self.new.out.ghost_name ≡ self.old.out.ghost_name }
+        ensures size { length self.new.out.now ≡ length self.old.out.now }
         ensures wrote { Wrote self.old.out.now self.old.place (field_bytes bytes.now) self.new.out.now self.new.place }
         ensures place { self.new.place ≤ self.old.place + length bytes.now + 3 }
     {

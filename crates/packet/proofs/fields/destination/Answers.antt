@@ -1,4 +1,5 @@
 use Rattle.std.proofs.Common.{arith, rules}
+use Rattle.std.proofs.lemmas.Grind.{common_steps}
 use Rattle.std.proofs.lemmas.Bool.Decides.{nat_tests}
 use Rattle.packet.specs.Fields.{read_destination}
 use Rattle.packet.proofs.fields.destination.Goals as goal
@@ -7,10 +8,6 @@ pub returns-in_err-bytes : goal.returns-in_err-bytes
 unfolding read_destination
 returns-in_err-bytes c = search rules
 
-pub returns-then-not-is_address : goal.returns-then-not-is_address
-unfolding read_destination
-returns-then-not-is_address c = grind (arith, nat_tests)
-
 pub returns : goal.returns
 unfolding read_destination
-returns c = grind (arith, nat_tests)
+returns c = grind (arith, common_steps, nat_tests)

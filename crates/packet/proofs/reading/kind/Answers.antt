@@ -1,4 +1,4 @@
-use Rattle.std.proofs.Common.{sym, subst, ◌∙◌, ◌≡◌, arith}
+use Rattle.std.proofs.Common.{sym, subst, ◌∙◌}
 use Rattle.wire.specs.Reading.{standing, Reads}
 use Rattle.packet.specs.Readers.{read_kind}
 use Rattle.packet.proofs.TypeByte.{byte_read, kind_read}

@@ -1,7 +1,0 @@
-use Rattle.std.proofs.Common.{refl}
-use Rattle.packet.specs.Readers.{answer_kind}
-use Rattle.packet_writer.proofs.Back.{write-back}
-use Rattle.packet_writer.proofs.writing.write_fulfill.Goals as goal
-
-pub returns : goal.returns
-returns c = record { writes = c.try_fulfill.ensures; back = write-back answer_kind _ _ _ c.try_fulfill.result refl c.try_fulfill.ensures }
