@@ -1,141 +1,88 @@
 // The statement of one packet: its kind and every field, or the first fault; and the packet written again.
-use crate::words::{cause_words, code_words, layer_words, push_ascii, push_hex};
-use calendar::date_time;
+use crate::words::{Ascii, Expiry, Hex, Measured};
 use condition::sha256::digest;
 use packet::reading::read_packet;
 use packet::value::{Fulfill, Packet, Prepare, Reject};
 use packet_writer::writing::{LONGEST_PACKET, write_packet};
 use std::alloc::{AllocError, Global};
-use std::fmt::Write;
-use wire::compare::same_bytes;
-use wire::fault::Fault;
+use std::fmt;
+use wire::code::RejectCode;
 
 // How many bytes of a packet written again stand in one line.
 const LINE: usize = 32;
 
 pub(crate) fn statement(heap: Global, input: &[u8]) -> Result<String, AllocError> {
-    let mut text = String::new(heap);
     match read_packet(input) {
         Ok(packet) => {
-            push_packet(heap, &mut text, &packet)?;
-            push_again(heap, &mut text, &packet, input)?;
+            let mut out = vec![in heap; 0u8; LONGEST_PACKET]?;
+            let Ok(n) = write_packet(&mut out, &packet) else {
+                return format!(in heap; "{}not written again\n", Fields(&packet));
+            };
+            out.truncate(n);
+            let again = Again { bytes: &out, input };
+            format!(in heap; "{}{again}", Fields(&packet))
         }
-        Err(fault) => push_fault(heap, &mut text, fault)?,
-    }
-    Ok(text)
-}
-
-fn push_fault(heap: Global, text: &mut String, fault: Fault) -> Result<(), AllocError> {
-    let layer = layer_words(fault.layer);
-    let cause = cause_words(fault.cause);
-    let offset = fault.offset;
-    let line = format!(in heap; "no packet: {layer} fault at byte {offset}: {cause}\n")?;
-    text.push_str(line.as_str())
-}
-
-fn push_packet(heap: Global, text: &mut String, packet: &Packet<'_>) -> Result<(), AllocError> {
-    match packet {
-        Packet::Prepare(p) => push_prepare(heap, text, p),
-        Packet::Fulfill(f) => push_fulfill(heap, text, f),
-        Packet::Reject(r) => push_reject(heap, text, r),
+        Err(fault) => format!(in heap; "no packet: {fault}\n"),
     }
 }
 
-fn push_prepare(heap: Global, text: &mut String, p: &Prepare<'_>) -> Result<(), AllocError> {
-    let amount = p.amount;
-    let line = format!(in heap; "Prepare\namount: {amount}\n")?;
-    text.push_str(line.as_str())?;
-    push_expiry(heap, text, p.expiry)?;
-    text.push_str("condition: ")?;
-    push_hex(text, p.condition)?;
-    push_address(heap, text, "\ndestination: ", p.destination)?;
-    push_size(heap, text, "data", p.data)
-}
+// A packet's kind and its fields, a line each.
+#[derive(Clone, Copy)]
+struct Fields<'a>(&'a Packet<'a>);
 
-fn push_fulfill(heap: Global, text: &mut String, f: &Fulfill<'_>) -> Result<(), AllocError> {
-    text.push_str("Fulfill\nfulfilment: ")?;
-    push_hex(text, f.fulfilment)?;
-    text.push_str("\n")?;
-    if let Ok(fulfilment) = <&[u8; 32]>::try_from(f.fulfilment) {
-        text.push_str("its SHA-256: ")?;
-        push_hex(text, &digest(fulfilment))?;
-        text.push_str("\n")?;
+impl fmt::Display for Fields<'_> {
+    fn fmt<W: fmt::Write>(&self, f: &mut fmt::Formatter<W>) -> fmt::Result {
+        match self.0 {
+            Packet::Prepare(p) => write_prepare(f, p),
+            Packet::Fulfill(p) => write_fulfill(f, p),
+            Packet::Reject(p) => write_reject(f, p),
+        }
     }
-    push_size(heap, text, "data", f.data)
 }
 
-fn push_reject(heap: Global, text: &mut String, r: &Reject<'_>) -> Result<(), AllocError> {
-    text.push_str("Reject\ncode: ")?;
-    push_ascii(text, r.code)?;
-    let name = code_words(r.code);
-    let line = format!(in heap; " ({name})\n")?;
-    text.push_str(line.as_str())?;
-    push_address(heap, text, "triggered by: ", r.triggered_by)?;
-    push_size(heap, text, "message", r.message)?;
-    push_size(heap, text, "data", r.data)
+fn write_prepare<W: fmt::Write>(f: &mut fmt::Formatter<W>, p: &Prepare<'_>) -> fmt::Result {
+    writeln!(f, "Prepare\namount: {}", p.amount)?;
+    writeln!(f, "expiry: {}", Expiry(p.expiry))?;
+    writeln!(f, "condition: {}", Hex(p.condition))?;
+    writeln!(f, "destination: {}", Measured(p.destination))?;
+    writeln!(f, "data: {} bytes", p.data.len())
 }
 
-fn push_address(
-    heap: Global,
-    text: &mut String,
-    before: &str,
-    bytes: &[u8],
-) -> Result<(), AllocError> {
-    let size = bytes.len();
-    text.push_str(before)?;
-    push_ascii(text, bytes)?;
-    let line = format!(in heap; " ({size} bytes)\n")?;
-    text.push_str(line.as_str())
+fn write_fulfill<W: fmt::Write>(f: &mut fmt::Formatter<W>, p: &Fulfill<'_>) -> fmt::Result {
+    writeln!(f, "Fulfill\nfulfilment: {}", Hex(p.fulfilment))?;
+    if let Ok(fulfilment) = <&[u8; 32]>::try_from(p.fulfilment) {
+        writeln!(f, "its SHA-256: {}", Hex(&digest(fulfilment)))?;
+    }
+    writeln!(f, "data: {} bytes", p.data.len())
 }
 
-fn push_size(heap: Global, text: &mut String, name: &str, bytes: &[u8]) -> Result<(), AllocError> {
-    let size = bytes.len();
-    let line = format!(in heap; "{name}: {size} bytes\n")?;
-    text.push_str(line.as_str())
-}
-
-fn push_expiry(heap: Global, text: &mut String, instant: u64) -> Result<(), AllocError> {
-    let Some(at) = date_time(instant) else {
-        return text.push_str("expiry: after the year 9999\n");
-    };
-    let (year, month, day) = (at.year, at.month, at.day);
-    let (hour, minute, second, millisecond) = (at.hour, at.minute, at.second, at.millisecond);
-    let date = format!(in heap; "expiry: {year:04}-{month:02}-{day:02} ")?;
-    text.push_str(date.as_str())?;
-    let time = format!(in heap;
-        "{hour:02}:{minute:02}:{second:02}.{millisecond:03} UTC, instant {instant}\n"
-    )?;
-    text.push_str(time.as_str())
+fn write_reject<W: fmt::Write>(f: &mut fmt::Formatter<W>, p: &Reject<'_>) -> fmt::Result {
+    write!(f, "Reject\ncode: {} (", Ascii(p.code))?;
+    match RejectCode::try_from(p.code) {
+        Ok(code) => writeln!(f, "{code})")?,
+        Err(_) => writeln!(f, "a code with no name)")?,
+    }
+    writeln!(f, "triggered by: {}", Measured(p.triggered_by))?;
+    writeln!(f, "message: {} bytes", p.message.len())?;
+    writeln!(f, "data: {} bytes", p.data.len())
 }
 
 // The packet written again: its bytes, how many they are, and whether they are the input.
-fn push_again(
-    heap: Global,
-    text: &mut String,
-    packet: &Packet<'_>,
-    input: &[u8],
-) -> Result<(), AllocError> {
-    let mut out = vec![in heap; 0u8; LONGEST_PACKET]?;
-    let Ok(n) = write_packet(&mut out, packet) else {
-        return text.push_str("not written again\n");
-    };
-    if n > out.len() {
-        return Ok(());
+#[derive(Clone, Copy)]
+struct Again<'a> {
+    bytes: &'a [u8],
+    input: &'a [u8],
+}
+
+impl fmt::Display for Again<'_> {
+    fn fmt<W: fmt::Write>(&self, f: &mut fmt::Formatter<W>) -> fmt::Result {
+        writeln!(f, "written again:")?;
+        for line in self.bytes.chunks(LINE) {
+            writeln!(f, "  {}", Hex(line))?;
+        }
+        let equal = if self.bytes == self.input { "yes" } else { "no" };
+        writeln!(f, "{} bytes; equal to the input: {equal}", self.bytes.len())
     }
-    let again = &out[0..n];
-    text.push_str("written again:\n")?;
-    for line in again.chunks(LINE) {
-        text.push_str("  ")?;
-        push_hex(text, line)?;
-        text.push_str("\n")?;
-    }
-    let equal = if same_bytes(again, input) {
-        "yes"
-    } else {
-        "no"
-    };
-    let line = format!(in heap; "{n} bytes; equal to the input: {equal}\n")?;
-    text.push_str(line.as_str())
 }
 
 #[cfg(test)]
