@@ -3,7 +3,7 @@
 ghost use Rattle.std.specs.Prelude.{◌≡◌};
 ghost use Rattle.wire.specs.Codes.{code_bytes, is_code, NamesCode};
 
-#[derive(Clone, Copy, Debug)]
+#[derive(Clone, Copy, Debug, PartialEq, Eq)]
 pub enum RejectCode {
     // F00 to F08, F99
     BadRequest,
@@ -63,7 +63,7 @@ impl RejectCode {
 }
 
 // Bytes that are none of the 21 codes.
-#[derive(Clone, Copy, Debug)]
+#[derive(Clone, Copy, Debug, PartialEq, Eq)]
 pub struct UnknownCode;
 
 impl TryFrom<&[u8]> for RejectCode {

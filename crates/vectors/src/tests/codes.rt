@@ -28,7 +28,8 @@ const CODES: [(RejectCode, &'static [u8]); 21] = [
 #[test]
 fn the_bytes_of_each_code(rt: HostRuntime) {
     for (i, (code, bytes)) in CODES.iter().enumerate() {
-        assert!(rt; &code.bytes()[..] == *bytes, "{i}");
+        assert_eq!(rt; code.bytes().as_slice(), *bytes, "{i}");
+        assert_eq!(rt; RejectCode::try_from(*bytes).ok(), Some(*code), "{i}");
         assert!(rt; is_code(bytes), "{i}");
     }
 }
@@ -41,6 +42,6 @@ const NO_CODES: [&'static [u8]; 9] = [
 fn bytes_that_are_a_code_or_none(rt: HostRuntime) {
     assert!(rt; is_code(b"F47") && is_code(b"T50") && is_code(b"R09"));
     for (i, bytes) in NO_CODES.iter().enumerate() {
-        assert!(rt; !is_code(bytes), "{i}");
+        assert!(rt; !is_code(bytes) && RejectCode::try_from(*bytes).is_err(), "{i}");
     }
 }

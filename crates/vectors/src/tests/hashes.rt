@@ -123,10 +123,11 @@ fn from_hex(text: &str) -> Result<[u8; 32], Fail> {
         return Err(Fail::new("not 64 digits"));
     }
     let mut bytes = [0u8; 32];
-    for i in 0..32usize {
-        let high = nibble(digits[2 * i])?;
-        let low = nibble(digits[2 * i + 1])?;
-        bytes[i] = (high & 15) * 16 + (low & 15);
+    for (byte, pair) in bytes.iter_mut().zip(digits.chunks_exact(2)) {
+        let [high, low] = pair else {
+            return Err(Fail::new("not two digits"));
+        };
+        *byte = (nibble(*high)? & 15) * 16 + (nibble(*low)? & 15);
     }
     Ok(bytes)
 }
@@ -136,8 +137,8 @@ fn digests_of_another_implementation(rt: HostRuntime) -> Result<(), Fail> {
     for (input, expected) in &DIGESTS {
         let bytes = from_hex(input)?;
         let hash = from_hex(expected)?;
-        assert!(rt; &digest(&bytes)[..] == &hash[..], "{input}");
-        assert!(rt; &Sha256.hash(&bytes)[..] == &hash[..], "{input}");
+        assert!(rt; digest(&bytes) == hash, "{input}");
+        assert!(rt; Sha256.hash(&bytes) == hash, "{input}");
         assert!(rt; fulfils(&Sha256, &bytes, &hash), "{input}");
     }
     Ok(())
@@ -155,7 +156,7 @@ fn chained(times: u32) -> [u8; 32] {
 fn a_thousand_digests_in_a_chain(rt: HostRuntime) -> Result<(), Fail> {
     let last = chained(1000);
     let expected = from_hex(THOUSANDTH)?;
-    assert!(rt; &last[..] == &expected[..]);
+    assert_eq!(rt; last, expected);
     Ok(())
 }
 
@@ -164,7 +165,7 @@ fn a_thousand_digests_in_a_chain(rt: HostRuntime) -> Result<(), Fail> {
 fn the_practice_hash(rt: HostRuntime) -> Result<(), Fail> {
     let ascending = from_hex("000102030405060708090a0b0c0d0e0f101112131415161718191a1b1c1d1e1f")?;
     let expected = from_hex("45444746414043424d4c4f4e49484b4a55545756515053525d5c5f5e59585b5a")?;
-    assert!(rt; &Practice.hash(&ascending)[..] == &expected[..]);
+    assert_eq!(rt; Practice.hash(&ascending), expected);
     Ok(())
 }
 

@@ -3,23 +3,20 @@
 use crate::tests::packets::{CONDITION, FULFILMENT};
 use crate::tests::support::{ROOM, check_read, pattern};
 use packet::value::{Fulfill, Packet, Prepare, Reject};
-use packet_writer::writing::{write_fulfill, write_packet, write_prepare, write_reject};
+use packet_writer::writing::write_packet;
 use std::alloc::Global;
 use std::fmt::Display;
 use std::process::Abort;
 use std::test::Fail;
 
-// The writer of the packet's own kind, which does what the writer of any kind does.
+// Written as a packet of its own kind, which is what it is written as as a packet of any kind.
 fn write_by_kind(out: &mut [u8], packet: &Packet<'_>) -> Option<usize> {
     let written = match packet {
-        Packet::Prepare(p) => write_prepare(out, p),
-        Packet::Fulfill(f) => write_fulfill(out, f),
-        Packet::Reject(r) => write_reject(out, r),
+        Packet::Prepare(p) => write_packet(out, p),
+        Packet::Fulfill(f) => write_packet(out, f),
+        Packet::Reject(r) => write_packet(out, r),
     };
-    match written {
-        Ok(n) => Some(n),
-        Err(_) => None,
-    }
+    written.ok()
 }
 
 // Both writers write these bytes, and nothing behind them.

@@ -29,10 +29,8 @@ const TIMES: [(&'static [u8], u64); 20] = [
 fn digits_of_instants(rt: HostRuntime) -> Result<(), Fail> {
     for (digits, instant) in &TIMES {
         assert_eq!(rt; read_timestamp(digits), Some(*instant), "{instant}");
-        let Some(written) = write_timestamp(*instant) else {
-            return Err(Fail::new("not written"));
-        };
-        assert!(rt; &written[..] == *digits, "{instant}");
+        let written = write_timestamp(*instant).ok_or_else(|| Fail::new("not written"))?;
+        assert_eq!(rt; written.as_slice(), *digits, "{instant}");
     }
     assert!(rt;
         write_timestamp(253_402_300_800_000).is_none() && write_timestamp(u64::MAX).is_none()
