@@ -1,9 +1,7 @@
 // How numbers are opened and closed.
-ghost use Rattle.std.specs.Prelude.{◌≡◌, ℕ, ◌-◌, ◌<◌, ◌≤◌, true, false, [], ◌∷◌, ◌++◌, length, take};
-ghost use Rattle.std.specs.List.{remove};
+ghost use Rattle.std.specs.Prelude.{◌≡◌, ◌<◌, false, [], ◌∷◌, ◌++◌, length, ◌==◌, position};
 ghost use Rattle.stage.specs.Numbers.{among, without};
 ghost use Rattle.stage.specs.Opened.{opened};
-ghost use Rattle.stage.specs.Finds.{Finds};
 
 use super::OpenNumbers;
 
@@ -27,20 +25,17 @@ impl OpenNumbers {
 
     // The place of a number that is open.
     fn find(&self, number: u32) -> Option<usize>
-        ensures { Finds (opened self.now) number result }
+        ensures { result ≡ position (λ x. x == number) (opened self.now) }
     {
-        for i in 0..self.count {
-            if self.places[i] == number {
-                return Some(i);
-            }
-        }
-        None
+        self.places[..self.count]
+            .iter()
+            .position(|open| *open == number)
     }
 
     pub(crate) fn has(&self, number: u32) -> bool
         ensures { result ≡ among (opened self.now) number }
     {
-        self.find(number).is_some()
+        self.places[..self.count].contains(&number)
     }
 
     // Opens a number.
@@ -61,17 +56,7 @@ impl OpenNumbers {
         let Some(place) = self.find(number) else {
             return;
         };
-        close_gap(&mut self.places, place, self.count);
+        self.places.copy_within(place + 1..self.count, place);
         self.count -= 1;
-    }
-}
-
-// Moves what stands behind a place one down.
-fn close_gap(numbers: &mut [u32], place: usize, count: usize)
-    requires { (place < count) × (count ≤ length numbers.old) }
-    ensures { take (count - 1) numbers.new ≡ remove (take count numbers.old) place }
-{
-    for i in place + 1..count {
-        numbers[i - 1] = numbers[i];
     }
 }
