@@ -1,5 +1,5 @@
 // The price of each of the eight accounts' money, none of them 0.
-ghost use Rattle.std.specs.Prelude.{◌≡◌, true, length};
+ghost use Rattle.std.specs.Prelude.{◌≡◌, true};
 ghost use Rattle.layers.specs.Positive.{all_positive};
 
 pub mod calls;
@@ -7,6 +7,5 @@ pub mod calls;
 #[derive(Clone, Copy)]
 pub struct Prices {
     of: [u32; 8],
-    ghost whole: { length of ≡ 8 },
     ghost positive: { all_positive of ≡ true },
 }

@@ -8,12 +8,7 @@ use super::Prices;
 fn all_positive(of: &[u32]) -> bool
     ensures { result ≡ all_positive of.now }
 {
-    for price in of {
-        if *price == 0 {
-            return false;
-        }
-    }
-    true
+    of.iter().all(|price| *price > 0)
 }
 
 impl Prices {
@@ -27,6 +22,7 @@ impl Prices {
         Some(Prices { of })
     }
 
+    #[tactic(auto, using(std::proofs::lemmas::List::Folds::list_all_at))]
     pub(crate) fn price(&self, account: u8) -> u32
         requires { account < 8 }
         ensures value { result ≡ slice_index self.now.of account }
