@@ -1,5 +1,5 @@
 -- What is kept by each way in which a call turns out.
-use Rattle.std.proofs.Common.{◌≡◌, ℕ, ◌+◌, ◌^◌, ◌<◌, ◌≤◌, Bool, true, false, cond, ◌&&◌, ltb, List, [], ◌∷◌, ◌++◌, length, ℤ, Some, None, Ok, Option, sym, refl, ap, ◌∙◌, subst, inl, arith}
+use Rattle.std.proofs.Common.{◌≡◌, ℕ, ◌+◌, ◌^◌, ◌<◌, ◌≤◌, Bool, true, false, cond, ◌&&◌, ltb, List, [], ◌∷◌, ◌++◌, length, ℤ, Some, None, Ok, Option, sym, refl, ap, ◌∙◌, subst, inl, arith, Result}
 use Rattle.std.specs.List.{AllByRecursion}
 use Rattle.std.specs.Str.{bytes_eq}
 use Rattle.std.proofs.lemmas.List.{map_push}
@@ -15,8 +15,7 @@ use Rattle.packet.specs.OneEncoding.{Bytes}
 use Rattle.stage.specs.declared.accounts.AccountPair.{AccountPair}
 use Rattle.stage.specs.declared.transfer.Transfer.{Transfer}
 use Rattle.stage.specs.declared.transfer.Passed.{Passed}
-use Rattle.stage.specs.declared.transfer.Verdict.{Verdict}
-use Rattle.stage.specs.declared.transfer.Verdict.TheVariants.{Pass}
+use Rattle.stage.specs.declared.transfer.Rejected.{Rejected}
 use Rattle.stage.specs.Numbers.{none_twice, without}
 use Rattle.stage.specs.Verdicts.{NotLater}
 use Rattle.accounts.specs.Figures.{is_set_up, takes_out, can_hold_in, can_hold_out, can_settle, settled_balance}
@@ -277,7 +276,7 @@ module _ (digest : List ℕ → List ℕ) {St : Type 0} (held : St → List ℕ)
           right.1
 
       -- a Prepare that is forwarded
-      module _ (rule : St → Transfer → Verdict) (later : (x : St) (t : Transfer) → NotLater t (rule x t)) where
+      module _ (rule : St → Transfer → Result Passed Rejected) (later : (x : St) (t : Transfer) → NotLater t (rule x t)) where
         fits-64 : (es : List Event) (b : Books) (p : St) → Held es b p → (to m : ℕ) → can_hold_out b.accounts to m ≡ true → m < 2 ^ 64
         fits-64 es b p k to m t =
             let two = and_parts (is_set_up b.accounts to) (takes_out m (figures_at b to)) t in
@@ -285,14 +284,14 @@ module _ (digest : List ℕ → List ℕ) {St : Type 0} (held : St → List ℕ)
             small-enough (figures_at first to) (figures_at b to) (k.bal to) (sum_in to b.rows) (sum_out to b.rows) m (k.accounts.1 to (omega (arith, k.accounts.0))) two.1
 
         -- the law of every stage on expiries, applied
-        not_after : (asked : Transfer) (x : St) (v : Passed) → rule x asked ≡ Pass v → v.expiry ≤ asked.expiry
+        not_after : (asked : Transfer) (x : St) (v : Passed) → rule x asked ≡ Ok v → v.expiry ≤ asked.expiry
         not_after asked x v e = subst (NotLater asked) e (later x asked)
 
         pub by-forward : (a q t : ℕ) (bytes : List ℕ) (asked : PrepareValue) (to : ℕ) (accounts : AccountPair) (v : Passed) (es : List Event) (b : Books) (p p' : St) → Held es b p →
             Bytes bytes →
             prepare_in bytes ≡ Ok asked →
             can_hold_in b.accounts a asked.amount ≡ true →
-            rule p (offered b (time_at b t) asked accounts) ≡ Pass v →
+            rule p (offered b (time_at b t) asked accounts) ≡ Ok v →
             can_hold_out b.accounts to v.amount ≡ true →
             held p' ≡ held p ++ (b.last + 1) ∷ [] →
             let o = forwards (time_at b t) (next_row b (reservation_for a q asked to v)) (onward asked v.amount v.expiry) in
