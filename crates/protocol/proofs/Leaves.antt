@@ -37,14 +37,13 @@ use Rattle.protocol.proofs.Again.{onward-again, ours-again}
 use Rattle.protocol.proofs.Kept.{shown, Kept, push, origin-more, origin-marked}
 
 never : {X : Type 0} (r : Pending) → ◌≡◌ {A = Option Pending} None (Some r) → X
-never r q = let z : ◌≡◌ {A = ℕ} 0 1 = cc in absurd (omega arith)
+never r q = absurd cc
 
 -- an event that names no account forwarded nothing
 nothing-sent : (e : Event) → sent_to e.reply ≡ None → (n : ℕ) → Forwarding n e → ⊥
 nothing-sent e none n f =
     let q : sent_to e.reply ≡ Some f.outgoing = ap (λ (x : Event). sent_to x.reply) f.is in
-    let z : ◌≡◌ {A = ℕ} 0 1 = cc in
-    absurd (omega arith)
+    absurd cc
 
 module _ (digest : List ℕ → List ℕ) {St : Type 0} (held : St → List ℕ) (s : SetUp) (first : Books) where
   abbrev Held : List Event → Books → St → Type 0
@@ -141,8 +140,7 @@ module _ (digest : List ℕ → List ℕ) {St : Type 0} (held : St → List ℕ)
       ours-no-fulfill : (c : RejectCode) (f : FulfillValue) → answer_in (our_bytes s.own c 0 0) ≡ Ok (fulfilled f) → ⊥
       ours-no-fulfill c f q =
           let w = ours-again s.own c 0 0 valid in
-          let z : ◌≡◌ {A = ℕ} 0 1 = cc in
-          absurd (omega arith)
+          absurd cc
 
       pub by-unsent : (n : ℕ) (r : Pending) (es : List Event) (b : Books) (p p' : St) → Held es b p → lookup n b.rows ≡ Some r →
           held p' ≡ without (held p) r.number →
@@ -156,7 +154,7 @@ module _ (digest : List ℕ → List ℕ) {St : Type 0} (held : St → List ℕ)
           (ap (λ m. with_rows (dropped m) (shown b k.bal)) (sym (lookup-number n b.rows r found)))
           found
           refl
-          (not-fulfilling b.time es e r (λ f. let q = f.is_answer in let z : ◌≡◌ {A = ℕ} 0 1 = cc in absurd (omega arith)) refl (ours-no-fulfill code.PeerUnreachable))
+          (not-fulfilling b.time es e r (λ f. let q = f.is_answer in absurd cc) refl (ours-no-fulfill code.PeerUnreachable))
 
       pub by-tick : (t : ℕ) (r : Pending) (es : List Event) (b : Books) (p p' : St) → Held es b p → due (time_at b t) b.rows ≡ Some r →
           held p' ≡ without (held p) r.number →
@@ -170,7 +168,7 @@ module _ (digest : List ℕ → List ℕ) {St : Type 0} (held : St → List ℕ)
           (ap (λ o. remove o (with_time (time_at b t) (shown b k.bal))) found)
           found
           refl
-          (not-fulfilling (time_at b t) es e r (λ f. let q = f.is_answer in let z : ◌≡◌ {A = ℕ} 0 1 = cc in absurd (omega arith)) refl (ours-no-fulfill code.TransferTimedOut))
+          (not-fulfilling (time_at b t) es e r (λ f. let q = f.is_answer in absurd cc) refl (ours-no-fulfill code.TransferTimedOut))
 
       -- what a fulfilling answer is read as
       fulfilling-reads : (now a n t : ℕ) (bytes : List ℕ) (r : Pending) (g : Fulfilling digest now (answer a n t bytes) r) → (bytes ≡ g.bytes) × (answer_in bytes ≡ Ok (fulfilled g.brought))
@@ -197,9 +195,9 @@ module _ (digest : List ℕ → List ℕ) {St : Type 0} (held : St → List ℕ)
           DecidedRight digest s.own now es (event (answer a n t bytes) reply bytes) r
       theirs-right now a n t bytes reply r x es reads e =
           not-fulfilling now es (event (answer a n t bytes) reply bytes) r
-          (λ g. let w = fulfilling-reads now a n t bytes r g in let v = w.1 in let z : ◌≡◌ {A = ℕ} 0 1 = cc in absurd (omega arith))
+          (λ g. let w = fulfilling-reads now a n t bytes r g in let v = w.1 in absurd cc)
           (sym (ap (answer_reject s.own now bytes r) reads ∙ ap (λ c. cond c bytes (our_bytes s.own code.TransferTimedOut 0 0)) e))
-          (λ f q. let z : ◌≡◌ {A = ℕ} 0 1 = cc in absurd (omega arith))
+          (λ f q. absurd cc)
 
       -- in time, with another hash
       wrong-right : (now a n t : ℕ) (bytes : List ℕ) (f : FulfillValue) (reply : Reply) (r : Pending) (es : List Event) → answer_in bytes ≡ Ok (fulfilled f) → ltb now r.expiry ≡ true → bytes_eq (digest f.fulfilment) r.condition ≡ false →

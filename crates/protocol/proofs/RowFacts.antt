@@ -1,5 +1,5 @@
 -- Lemmas on rows and their numbers.
-use Rattle.std.proofs.Common.{◌≡◌, ℕ, zero, suc, ◌+◌, ◌<◌, ◌≤◌, Bool, true, false, cond, ◌&&◌, eqb, ltb, leb, ◌⊎◌, List, [], ◌∷◌, length, get_or, Some, None, Option, sym, refl, ap, ◌∙◌, subst, inl, inr, ⊎_elim, arith}
+use Rattle.std.proofs.Common.{◌≡◌, ℕ, zero, suc, ◌+◌, ◌<◌, ◌≤◌, Bool, true, false, cond, ◌&&◌, eqb, ltb, leb, ◌⊎◌, List, [], ◌∷◌, length, get_or, Some, None, Option, sym, refl, ◌∙◌, subst, inl, inr, ⊎_elim, arith}
 use Rattle.std.proofs.lemmas.Bool.Decides.{nat_tests}
 use Rattle.std.specs.List.{AllByRecursion}
 use Rattle.stage.specs.Numbers.{among, none_twice, without}
@@ -11,10 +11,7 @@ use Rattle.protocol.specs.Runs.{numbers_of}
 
 pub numbers-marked : (n : ℕ) (rs : List Pending) → numbers_of (marked n rs) ≡ numbers_of rs
 numbers-marked n [] = refl
-numbers-marked n (r ∷ rs) =
-    elim (eqb r.number n)
-    as (λ b. numbers_of (cond b (as_sent r ∷ rs) (r ∷ marked n rs)) ≡ r.number ∷ numbers_of rs)
-    [ true ↦ refl | false ↦ ap (λ ns. r.number ∷ ns) (numbers-marked n rs) ]
+numbers-marked n (r ∷ rs) = let k = numbers-marked n rs in grind (arith, nat_tests)
 
 -- where no number stands twice, the numbers without one are those of the rows without its row
 pub numbers-dropped : (n : ℕ) (rs : List Pending) → none_twice (numbers_of rs) ≡ true → without (numbers_of rs) n ≡ numbers_of (dropped n rs)
@@ -48,7 +45,7 @@ first_of p [] = inl refl
 first_of p (r ∷ rs) = here-or-later p r rs (ends_before r p) (first_of r rs) (first_of p rs)
 
 earliest-place : (rs : List Pending) (r : Pending) → earliest rs ≡ Some r → (i : ℕ) × (i < length rs) × (get_or rs i vacant ≡ r)
-earliest-place [] r e = let z : ◌≡◌ {A = ℕ} 0 1 = cc in absurd (omega arith)
+earliest-place [] r e = absurd cc
 earliest-place (p ∷ rs) r e =
     let g : earliest_from p rs ≡ r = cc in
     ⊎_elim
@@ -65,10 +62,10 @@ due-found now rs r d e = go (earliest rs) refl e
 
     pick : (q : Pending) (b : Bool) → earliest rs ≡ Some q → cond b (Some q) None ≡ Some r → lookup r.number rs ≡ Some r
     pick q true t w = there (t ∙ w)
-    pick q false t w = let z : ◌≡◌ {A = ℕ} 0 1 = cc in absurd (omega arith)
+    pick q false t w = absurd cc
 
     go : (o : Option Pending) → earliest rs ≡ o → if_reached now o ≡ Some r → lookup r.number rs ≡ Some r
-    go None t w = let z : ◌≡◌ {A = ℕ} 0 1 = cc in absurd (omega arith)
+    go None t w = absurd cc
     go (Some q) t w = pick q (leb q.expiry now) t w
 
 -- what holds of each row
@@ -83,7 +80,7 @@ all-marked Q f n (r ∷ rs) h =
     elim (eqb r.number n) as (λ b. AllByRecursion Q (cond b (as_sent r ∷ rs) (r ∷ marked n rs))) [ true ↦ (f r h.0, h.1) | false ↦ (h.0, all-marked Q f n rs h.1) ]
 
 pub all_found : (Q : Pending → Type 0) (n : ℕ) (rs : List Pending) (r : Pending) → lookup n rs ≡ Some r → AllByRecursion Q rs → Q r
-all_found Q n [] r e h = let z : ◌≡◌ {A = ℕ} 0 1 = cc in absurd (omega arith)
+all_found Q n [] r e h = absurd cc
 all_found Q n (x ∷ rs) r e h =
     elim (eqb x.number n)
     as (λ b. cond b (Some x) (lookup n rs) ≡ Some r → Q r)
@@ -109,11 +106,7 @@ given-one last n l h = grind (arith, nat_tests)
 -- how many rows have a number, and whether one is found
 pub counted_none : (n : ℕ) (rs : List Pending) → total (numbered n) rs ≡ 0 → lookup n rs ≡ None
 counted_none n [] h = refl
-counted_none n (r ∷ rs) h =
-    elim (eqb r.number n)
-    as (λ b. cond {A = ℕ} b 1 0 + total (numbered n) rs ≡ 0 → cond b (Some r) (lookup n rs) ≡ None)
-    [ true ↦ λ q. absurd (omega arith) | false ↦ λ q. counted_none n rs (omega arith) ]
-    h
+counted_none n (r ∷ rs) h = let k = counted_none n rs in grind (arith, nat_tests)
 
 pub counted-some : (n : ℕ) (rs : List Pending) → total (numbered n) rs ≡ 1 → (r : Pending) × (lookup n rs ≡ Some r)
 counted-some n [] h = absurd (omega arith)

@@ -27,5 +27,5 @@ abbrev pub plainly : RejectCode → Rejected
 plainly c = record { code = c; first = 0; second = 0 }
 
 -- a rejection with its two numbers
-abbrev pub rejects : RejectCode → ℕ → ℕ → Result Passed Rejected
+abbrev pub rejects : {X : Type 0} → RejectCode → ℕ → ℕ → Result X Rejected
 rejects c first second = Err (record { code = c; first = first; second = second })

@@ -5,8 +5,7 @@ ghost use Rattle.stage.specs.Rules.{end_rule};
 ghost use Rattle.std.proofs.Common.{rules};
 
 use crate::interface::Stage;
-use crate::numbers::OpenNumbers;
-use crate::numbers::calls::MOST_OPEN;
+use crate::numbers::{MOST_OPEN, OpenNumbers};
 use crate::transfer::{Passed, Transfer, Verdict};
 use wire::code::RejectCode;
 
@@ -50,7 +49,7 @@ impl Stage for End {
     }
 
     fn take(&mut self, transfer: Transfer) {
-        if !self.numbers.has(transfer.number) && self.numbers.count() < MOST_OPEN {
+        if self.look(transfer).is_ok() {
             self.numbers.add(transfer.number);
         }
     }
