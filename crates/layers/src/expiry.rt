@@ -29,7 +29,7 @@ impl<S: Stage> Over<Times, S> {
     pub fn new(margin: u64, hold: u64, below: S) -> Result<Expiry<S>, NotMade<S>>
         ensures { ExpiryMade S.Stage.held margin hold below result }
     {
-        if margin > MOST_MARGIN || hold < 1 || hold > MOST_HOLD {
+        if margin > MOST_MARGIN || !(1..=MOST_HOLD).contains(&hold) {
             return Err(NotMade { passed_in: below });
         }
         Over::put(Times { margin, hold }, below)
