@@ -1,5 +1,5 @@
 -- What is decided of a Prepare, by the tests that the code makes.
-use Rattle.std.proofs.Common.{◌≡◌, ℕ, ◌+◌, ◌<◌, ◌≤◌, true, false, cond, not, leb, List, ◌++◌, length, take, is_some, Some, Ok, Option, sym, ap, ◌∙◌, arith}
+use Rattle.std.proofs.Common.{◌≡◌, ℕ, ◌+◌, ◌<◌, ◌≤◌, true, false, cond, not, leb, List, ◌++◌, length, take, is_some, Some, Ok, Option, sym, ap, ◌∙◌, arith, Result}
 use Rattle.std.proofs.lemmas.List.{take_all, take_at}
 use Rattle.std.specs.Bool.{then_some}
 use Rattle.std.proofs.lemmas.Bool.{le-leb, lt-leb, and_from, ne_eqb}
@@ -8,7 +8,7 @@ use Rattle.packet.specs.Values.{PrepareValue}
 use Rattle.stage.specs.declared.accounts.AccountPair.{AccountPair}
 use Rattle.stage.specs.declared.transfer.Transfer.{Transfer}
 use Rattle.stage.specs.declared.transfer.Passed.{Passed}
-use Rattle.stage.specs.declared.transfer.Verdict.{Verdict}
+use Rattle.stage.specs.declared.transfer.Rejected.{Rejected}
 use Rattle.accounts.specs.Figures.{can_hold_in, can_hold_out}
 use Rattle.pending.specs.Tables.{is_full}
 use Rattle.ledger.specs.Books.{Books, has_number, can_reserve, next_row, admitted}
@@ -18,7 +18,7 @@ use Rattle.protocol.specs.Pairs.{pair_of}
 use Rattle.protocol.specs.Outcomes.{SetUp, Outcome, forwarded}
 use Rattle.protocol.specs.Calls.{offered, plain_reject, by_prepare, by_route, by_pair, by_verdict, reservation_for}
 
-module _ (look : Transfer → Verdict) (s : SetUp) (b : Books) (a q : ℕ) (p : PrepareValue) where
+module _ (look : Transfer → Result Passed Rejected) (s : SetUp) (b : Books) (a q : ℕ) (p : PrepareValue) where
   abbrev all : Outcome
   all = by_prepare look s b a q b.time (Ok p)
 
@@ -62,7 +62,7 @@ module _ (look : Transfer → Verdict) (s : SetUp) (b : Books) (a q : ℕ) (p : 
   no-credit-in c to x e f h =
       sym (ap (λ y. cond y (by_verdict b a q b.time p to (look (offered b b.time p x))) (plain_reject b.time a q code.InsufficientLiquidity)) (sym h)) ∙ paired c to (Some x) e f
 
-  pub looked : Clear → (to : ℕ) (x : AccountPair) (v : Verdict) → Some to ≡ route_for s.routes p.destination → Some x ≡ pair_of a to → true ≡ can_hold_in b.accounts a p.amount → v ≡ look (offered b b.time p x) → by_verdict b a q b.time p to v ≡ all
+  pub looked : Clear → (to : ℕ) (x : AccountPair) (v : Result Passed Rejected) → Some to ≡ route_for s.routes p.destination → Some x ≡ pair_of a to → true ≡ can_hold_in b.accounts a p.amount → v ≡ look (offered b b.time p x) → by_verdict b a q b.time p to v ≡ all
   looked c to x v e f h w =
       ap (by_verdict b a q b.time p to) w
       ∙ sym (ap (λ y. cond y (by_verdict b a q b.time p to (look (offered b b.time p x))) (plain_reject b.time a q code.InsufficientLiquidity)) (sym h))

@@ -11,7 +11,8 @@ use Rattle.wire.specs.declared.fault.Fault.{Fault}
 use Rattle.protocol.specs.Messages.{Answered, answer_in, prepare_in}
 use Rattle.packet.specs.Values.{PrepareValue}
 use Rattle.stage.specs.declared.transfer.Transfer.{Transfer}
-use Rattle.stage.specs.declared.transfer.Verdict.{Verdict}
+use Rattle.stage.specs.declared.transfer.Passed.{Passed}
+use Rattle.stage.specs.declared.transfer.Rejected.{Rejected}
 use Rattle.protocol.specs.declared.refusal.Refusal.{Refusal}
 use Rattle.protocol.specs.declared.refusal.Refusal.TheVariants as refusal
 use Rattle.protocol.specs.Outcomes.{SetUp, Reply, refused, Outcome, refuses, marks, ends, ours}
@@ -125,7 +126,7 @@ module _ (digest : List ℕ → List ℕ) (b : Books) (room a n t : ℕ) (bytes 
       ∙ ap (Calls.by_answer digest (time_at b t) bytes r) q
 
 -- PREPARE
-module _ (look : Transfer → Verdict) (s : SetUp) (b : Books) (room a q t : ℕ) (bytes : List ℕ) where
+module _ (look : Transfer → Result Passed Rejected) (s : SetUp) (b : Books) (room a q t : ℕ) (bytes : List ℕ) where
   abbrev read_of : Outcome
   read_of = by_prepare look s b a q (time_at b t) (prepare_in bytes)
 

@@ -2,12 +2,13 @@
 use Rattle.std.specs.Prelude.{◌≡◌, ℕ, true, false, cond, List, Ok, Err, Result, nat_lt}
 use Rattle.wire.specs.declared.code.RejectCode.TheVariants.{InvalidAmount}
 use Rattle.stage.specs.declared.transfer.Transfer.{Transfer}
-use Rattle.stage.specs.declared.transfer.Verdict.{Verdict}
+use Rattle.stage.specs.declared.transfer.Passed.{Passed}
+use Rattle.stage.specs.declared.transfer.Rejected.{Rejected}
 use Rattle.stage.specs.Numbers.{is_empty}
 use Rattle.stage.specs.Verdicts.{rejects}
 use Rattle.example_stage.specs.declared.Least.{Least}
 
-abbrev pub least_rule : ℕ → (Transfer → Verdict) → Transfer → Verdict
+abbrev pub least_rule : ℕ → (Transfer → Result Passed Rejected) → Transfer → Result Passed Rejected
 least_rule least below t = cond (nat_lt t.amount least) (rejects InvalidAmount 0 0) (below t)
 
 abbrev pub Made : {S : Type 0} → (S → List ℕ) → ℕ → S → Result (Least S) S → Type 0

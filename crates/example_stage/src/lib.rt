@@ -6,7 +6,7 @@ ghost use Rattle.example_stage.specs.Least.{least_rule, Made};
 ghost use Rattle.std.proofs.Common.{rules};
 
 use stage::interface::Stage;
-use stage::transfer::{Rejected, Transfer, Verdict};
+use stage::transfer::{Transfer, Verdict};
 use wire::code::RejectCode;
 
 #[derive(Drop)]
@@ -42,11 +42,7 @@ impl<S: Stage> Stage for Least<S> {
 
     fn look(&self, transfer: Transfer) -> Verdict {
         if transfer.amount < self.least {
-            return Verdict::Reject(Rejected {
-                code: RejectCode::InvalidAmount,
-                first: 0,
-                second: 0,
-            });
+            return Err(RejectCode::InvalidAmount.into());
         }
         self.below.look(transfer)
     }

@@ -4,8 +4,8 @@ use Rattle.std.specs.Prelude.{ℕ, ◌-◌, ◌/◌, List, [], ◌∷◌, ◌++�
 use Rattle.wire.specs.declared.fault.Fault.{Fault}
 use Rattle.condition.specs.Practice.{practice}
 use Rattle.stage.specs.declared.transfer.Transfer.{Transfer}
-use Rattle.stage.specs.declared.transfer.Verdict.{Verdict}
-use Rattle.stage.specs.declared.transfer.Verdict.TheVariants.{Pass}
+use Rattle.stage.specs.declared.transfer.Passed.{Passed}
+use Rattle.stage.specs.declared.transfer.Rejected.{Rejected}
 use Rattle.stage.specs.Numbers.{without}
 use Rattle.ledger.specs.Books.{Books}
 use Rattle.protocol.specs.Refusals.{refusal_number}
@@ -15,8 +15,8 @@ use Rattle.protocol.specs.Calls.{prepare_outcome, sent_outcome, unsent_outcome, 
 use Rattle.protocol.specs.Turns.{books_after, written, reply_of}
 use Rattle.protocol.specs.Sheet.{Call, prepare, sent, unsent, answer, tick, settle, Event, event}
 
-abbrev pub passes : Transfer → Verdict
-passes t = Pass (record { amount = t.amount / 2; expiry = t.expiry - 1000 })
+abbrev pub passes : Transfer → Result Passed Rejected
+passes t = Ok (record { amount = t.amount / 2; expiry = t.expiry - 1000 })
 
 pub record State : Type 0 where
   pub books : Books

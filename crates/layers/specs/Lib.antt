@@ -3,4 +3,3 @@ pub mod Makings
 pub mod Positive
 pub mod Priced
 pub mod Stacks
-pub mod OverLaws

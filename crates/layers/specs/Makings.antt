@@ -3,26 +3,32 @@
 use Rattle.std.specs.Prelude.{◌≡◌, ℕ, Bool, true, false, ◌&&◌, List, Ok, Err, Result, nat_le}
 use Rattle.stage.specs.Numbers.{is_empty}
 use Rattle.layers.specs.declared.refusal.NotMade.{NotMade}
-use Rattle.layers.specs.declared.maximum.Maximum.{Maximum}
-use Rattle.layers.specs.declared.rate.Rate.{Rate}
-use Rattle.layers.specs.declared.expiry.Expiry.{Expiry}
+use Rattle.layers.specs.declared.over.Over.{Over}
+use Rattle.layers.specs.declared.maximum.GreatestAmounts.{GreatestAmounts}
+use Rattle.layers.specs.declared.prices.Prices.{Prices}
+use Rattle.layers.specs.declared.expiry.Times.{Times}
 use Rattle.layers.specs.Positive.{all_positive}
 
 -- the number by which every refusal of a set-up goes
 abbrev pub set_up_number : ℕ
 set_up_number = 8
 
-abbrev pub MaximumMade : {S : Type 0} → (S → List ℕ) → List ℕ → S → Result (Maximum S) (NotMade S) → Type 0
-MaximumMade held most below (Ok m) = (m.most ≡ most) × (m.below ≡ below) × (is_empty (held below) ≡ true)
-MaximumMade held most below (Err e) = (e.passed_in ≡ below) × (is_empty (held below) ≡ false)
+-- a layer is made of these figures over this stage exactly where a test holds
+abbrev pub MadeIf : {L S : Type 0} → Bool → (L → Type 0) → S → Result (Over L S) (NotMade S) → Type 0
+MadeIf test Figures below (Ok o) = Figures o.layer × (o.below ≡ below) × (test ≡ true)
+MadeIf test Figures below (Err e) = (e.passed_in ≡ below) × (test ≡ false)
 
-abbrev pub RateMade : {S : Type 0} → (S → List ℕ) → List ℕ → S → Result (Rate S) (NotMade S) → Type 0
-RateMade held prices below (Ok r) = (r.prices.of ≡ prices) × (r.below ≡ below) × ((is_empty (held below) && all_positive prices) ≡ true)
-RateMade held prices below (Err e) = (e.passed_in ≡ below) × ((is_empty (held below) && all_positive prices) ≡ false)
+abbrev pub OverMade : {L S : Type 0} → (S → List ℕ) → L → S → Result (Over L S) (NotMade S) → Type 0
+OverMade held layer below = MadeIf (is_empty (held below)) (λ l. l ≡ layer) below
+
+abbrev pub MaximumMade : {S : Type 0} → (S → List ℕ) → List ℕ → S → Result (Over GreatestAmounts S) (NotMade S) → Type 0
+MaximumMade held most below = MadeIf (is_empty (held below)) (λ l. l.most ≡ most) below
+
+abbrev pub RateMade : {S : Type 0} → (S → List ℕ) → List ℕ → S → Result (Over Prices S) (NotMade S) → Type 0
+RateMade held prices below = MadeIf (is_empty (held below) && all_positive prices) (λ l. l.of ≡ prices) below
 
 abbrev pub times_fit : ℕ → ℕ → Bool
 times_fit margin hold = nat_le margin 60_000 && nat_le 1 hold && nat_le hold 3_600_000
 
-abbrev pub ExpiryMade : {S : Type 0} → (S → List ℕ) → ℕ → ℕ → S → Result (Expiry S) (NotMade S) → Type 0
-ExpiryMade held margin hold below (Ok x) = (x.margin ≡ margin) × (x.hold ≡ hold) × (x.below ≡ below) × ((times_fit margin hold && is_empty (held below)) ≡ true)
-ExpiryMade held margin hold below (Err e) = (e.passed_in ≡ below) × ((times_fit margin hold && is_empty (held below)) ≡ false)
+abbrev pub ExpiryMade : {S : Type 0} → (S → List ℕ) → ℕ → ℕ → S → Result (Over Times S) (NotMade S) → Type 0
+ExpiryMade held margin hold below = MadeIf (times_fit margin hold && is_empty (held below)) (λ l. (l.margin ≡ margin) × (l.hold ≡ hold)) below

@@ -3,8 +3,9 @@
 #![tactic(auto)]
 
 pub mod expiry;
+pub mod layer;
 pub mod maximum;
-pub mod own;
+pub mod over;
 pub mod prices;
 pub mod rate;
 pub mod refusal;

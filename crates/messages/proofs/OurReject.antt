@@ -1,10 +1,10 @@
 -- The parts of a Reject of our own make it.
-use Rattle.std.proofs.Common.{◌≡◌, ℕ, Bool, true, false, cond, List, [], ◌++◌, length, take, codes, refl, ap, ◌∙◌, arith}
+use Rattle.std.proofs.Common.{◌≡◌, ℕ, Bool, true, false, cond, List, [], ◌++◌, length, take, codes, refl, arith}
 use Rattle.std.specs.Str.{bytes_eq}
 use Rattle.std.proofs.lemmas.List.{take_all}
 use Rattle.wire.specs.declared.code.RejectCode.{RejectCode}
 use Rattle.wire.specs.Codes.{code_bytes}
-use Rattle.packet.specs.Values.{RejectValue, reject}
+use Rattle.packet.specs.Values.{reject}
 use Rattle.packet.specs.Encoding.{amount_bytes, packet_bytes}
 use Rattle.protocol.specs.Messages.{our_bytes}
 
@@ -16,12 +16,6 @@ numbers-taken : (b : Bool) (x y : ℕ) → take (cond b 16 0) (amount_bytes x ++
 numbers-taken true x y = take_all 16 (amount_bytes x ++ amount_bytes y) (omega (arith, sixteen x y))
 numbers-taken false x y = refl
 
-same-reject : (a c d q s t : List ℕ) (e : List ℕ) → a ≡ q → c ≡ s → d ≡ t → ◌≡◌ {A = RejectValue} (record { code = a; triggered_by = c; message = e; payload = d }) (record { code = q; triggered_by = s; message = e; payload = t })
-same-reject a c d q s t e f g h = cc
-
 pub our-packet : (own : List ℕ) (c : RejectCode) (x y n : ℕ) (three from numbers : List ℕ) → three ≡ code_bytes c → from ≡ own → n ≡ cond (bytes_eq (code_bytes c) (codes "F08")) 16 0 → numbers ≡ amount_bytes x ++ amount_bytes y → packet_bytes (reject (record { code = three; triggered_by = from; message = []; payload = take n numbers })) ≡ our_bytes own c x y
 unfolding our_bytes
-our-packet own c x y n three from numbers e f g h =
-    ap (λ r. packet_bytes (reject r))
-    (same-reject three from (take n numbers) (code_bytes c) own (cond (bytes_eq (code_bytes c) (codes "F08")) (amount_bytes x ++ amount_bytes y) []) [] e f
-    (ap (λ k. take k numbers) g ∙ ap (take (cond (bytes_eq (code_bytes c) (codes "F08")) 16 0)) h ∙ numbers-taken (bytes_eq (code_bytes c) (codes "F08")) x y))
+our-packet own c x y n three from numbers e f g h = rw (e, f, g, h, numbers-taken (bytes_eq (code_bytes c) (codes "F08")) x y)

@@ -56,6 +56,7 @@ pub fn write_our_reject(own: &OwnAddress, rejected: Rejected, buffer: &mut [u8])
 }
 
 // A Prepare as it goes on: with the amount and the expiry that passed, and all else as it came.
+#[tactic(auto, unfolding(protocol::specs::Messages::forwarded_bytes))]
 pub fn write_onward(prepare: &Prepare<'_>, passed: Passed, buffer: &mut [u8]) -> usize
     requires room { room_needed ≤ length buffer.old }
     requires fits { PrepareFits (prepare_of prepare.now) }

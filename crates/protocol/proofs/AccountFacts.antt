@@ -1,9 +1,10 @@
 -- An account that matches what is due, as amounts are held, freed, booked and settled.
-use Rattle.std.proofs.Common.{◌≡◌, ℕ, ◌+◌, ◌^◌, ◌<◌, Bool, true, false, cond, eqb, List, [], ◌∷◌, ◌++◌, length, get_or, ℤ, pos, ◌+ℤ◌, ◌-ℤ◌, neg_ℤ, ◌≤ℤ◌, Some, sym, refl, ap, ◌∙◌, subst, ⊎_elim, arith}
+use Rattle.std.proofs.Common.{◌≡◌, ℕ, ◌+◌, ◌^◌, ◌<◌, Bool, true, false, cond, eqb, List, [], ◌∷◌, ◌++◌, length, get_or, ℤ, pos, ◌+ℤ◌, ◌-ℤ◌, neg_ℤ, ◌≤ℤ◌, Some, sym, refl, ap, ◌∙◌, subst, arith}
 use lib.Signed.{le_z}
 use Rattle.std.proofs.lemmas.Int.{ints}
 use Rattle.std.proofs.lemmas.List.{get_or-set_same, get_or-set_other, length-set}
-use Rattle.std.proofs.lemmas.Bool.{eqb-true, eq-eqb, ne_eqb, cases_eq, and_parts}
+use Rattle.std.proofs.lemmas.Bool.Decides.{nat_tests}
+use Rattle.std.proofs.lemmas.Bool.{eqb-true, and_parts}
 use Rattle.accounts.specs.declared.figures.Figures.{Figures}
 use Rattle.accounts.specs.Figures.{unset, adjust, within, takes_in, takes_out, hold_in, hold_out, with_balance, end_in, end_out, held, ended, settled_balance, can_settle}
 use Rattle.pending.specs.declared.row.Pending.{Pending}
@@ -18,14 +19,7 @@ length-adjust : (a : ℕ) (f : Figures → Figures) (xs : List Figures) → leng
 length-adjust a f xs = length-set xs a (f (get_or xs a unset))
 
 get_or-adjust : (a k : ℕ) (f : Figures → Figures) (xs : List Figures) → k < length xs → get_or (adjust a f xs) k unset ≡ cond (eqb a k) (f (get_or xs k unset)) (get_or xs k unset)
-get_or-adjust a k f xs l =
-    ⊎_elim
-    (λ (e : a ≡ k).
-    subst (λ (j : ℕ). get_or (adjust j f xs) k unset ≡ cond (eqb j k) (f (get_or xs k unset)) (get_or xs k unset)) (sym e)
-    (get_or-set_same xs k (f (get_or xs k unset)) unset l ∙ sym (ap (λ b. cond b (f (get_or xs k unset)) (get_or xs k unset)) (eq-eqb k k refl))))
-    (λ (e : a ≡ k → ⊥).
-    get_or-set_other xs a k (f (get_or xs a unset)) unset (λ q. e (sym q)) ∙ sym (ap (λ b. cond b (f (get_or xs k unset)) (get_or xs k unset)) (ne_eqb a k e)))
-    (cases_eq a k)
+get_or-adjust a k f xs l = grind (arith, nat_tests, get_or-set_same, get_or-set_other)
 
 -- an account after each change: x says whether it is this account that changes
 held-in-more : (x : Bool) (l f : Figures) (z : ℤ) (i o m : ℕ) → (x ≡ true → takes_in m f ≡ true) → AccountMatches l z i o f → AccountMatches l z (i + cond x m 0) o (cond x (hold_in m f) f)

@@ -17,9 +17,9 @@ use Rattle.protocol.specs.Messages.{only_prepare, prepare_in, declined, only_ans
 
 was-prepare : (x : Result PacketValue Fault) (p : PrepareValue) → only_prepare x ≡ Ok p → x ≡ Ok (prepare p)
 was-prepare (Ok (prepare q)) p e = let g : q ≡ p = cc in ap (λ v. Ok (prepare v)) g
-was-prepare (Ok (fulfill f)) p e = let z : ◌≡◌ {A = ℕ} 0 1 = cc in absurd (omega arith)
-was-prepare (Ok (reject r)) p e = let z : ◌≡◌ {A = ℕ} 0 1 = cc in absurd (omega arith)
-was-prepare (Err f) p e = let z : ◌≡◌ {A = ℕ} 0 1 = cc in absurd (omega arith)
+was-prepare (Ok (fulfill f)) p e = absurd cc
+was-prepare (Ok (reject r)) p e = absurd cc
+was-prepare (Err f) p e = absurd cc
 
 -- a Prepare that was read is well formed
 read_fits : (bytes : List ℕ) (p : PrepareValue) → Bytes bytes → prepare_in bytes ≡ Ok p → PrepareFits p

@@ -1,5 +1,5 @@
 -- What is kept by each way in which a call turns out.
-use Rattle.std.proofs.Common.{◌≡◌, ℕ, ◌+◌, ◌^◌, ◌<◌, ◌≤◌, Bool, true, false, cond, ◌&&◌, ltb, List, [], ◌∷◌, ◌++◌, length, ℤ, Some, None, Ok, Option, sym, refl, ap, ◌∙◌, subst, inl, arith}
+use Rattle.std.proofs.Common.{◌≡◌, ℕ, ◌+◌, ◌^◌, ◌<◌, ◌≤◌, Bool, true, false, cond, ◌&&◌, ltb, List, [], ◌∷◌, ◌++◌, length, ℤ, Some, None, Ok, Option, sym, refl, ap, ◌∙◌, subst, inl, arith, Result}
 use Rattle.std.specs.List.{AllByRecursion}
 use Rattle.std.specs.Str.{bytes_eq}
 use Rattle.std.proofs.lemmas.List.{map_push}
@@ -15,8 +15,7 @@ use Rattle.packet.specs.OneEncoding.{Bytes}
 use Rattle.stage.specs.declared.accounts.AccountPair.{AccountPair}
 use Rattle.stage.specs.declared.transfer.Transfer.{Transfer}
 use Rattle.stage.specs.declared.transfer.Passed.{Passed}
-use Rattle.stage.specs.declared.transfer.Verdict.{Verdict}
-use Rattle.stage.specs.declared.transfer.Verdict.TheVariants.{Pass}
+use Rattle.stage.specs.declared.transfer.Rejected.{Rejected}
 use Rattle.stage.specs.Numbers.{none_twice, without}
 use Rattle.stage.specs.Verdicts.{NotLater}
 use Rattle.accounts.specs.Figures.{is_set_up, takes_out, can_hold_in, can_hold_out, can_settle, settled_balance}
@@ -38,14 +37,13 @@ use Rattle.protocol.proofs.Again.{onward-again, ours-again}
 use Rattle.protocol.proofs.Kept.{shown, Kept, push, origin-more, origin-marked}
 
 never : {X : Type 0} (r : Pending) → ◌≡◌ {A = Option Pending} None (Some r) → X
-never r q = let z : ◌≡◌ {A = ℕ} 0 1 = cc in absurd (omega arith)
+never r q = absurd cc
 
 -- an event that names no account forwarded nothing
 nothing-sent : (e : Event) → sent_to e.reply ≡ None → (n : ℕ) → Forwarding n e → ⊥
 nothing-sent e none n f =
     let q : sent_to e.reply ≡ Some f.outgoing = ap (λ (x : Event). sent_to x.reply) f.is in
-    let z : ◌≡◌ {A = ℕ} 0 1 = cc in
-    absurd (omega arith)
+    absurd cc
 
 module _ (digest : List ℕ → List ℕ) {St : Type 0} (held : St → List ℕ) (s : SetUp) (first : Books) where
   abbrev Held : List Event → Books → St → Type 0
@@ -142,8 +140,7 @@ module _ (digest : List ℕ → List ℕ) {St : Type 0} (held : St → List ℕ)
       ours-no-fulfill : (c : RejectCode) (f : FulfillValue) → answer_in (our_bytes s.own c 0 0) ≡ Ok (fulfilled f) → ⊥
       ours-no-fulfill c f q =
           let w = ours-again s.own c 0 0 valid in
-          let z : ◌≡◌ {A = ℕ} 0 1 = cc in
-          absurd (omega arith)
+          absurd cc
 
       pub by-unsent : (n : ℕ) (r : Pending) (es : List Event) (b : Books) (p p' : St) → Held es b p → lookup n b.rows ≡ Some r →
           held p' ≡ without (held p) r.number →
@@ -157,7 +154,7 @@ module _ (digest : List ℕ → List ℕ) {St : Type 0} (held : St → List ℕ)
           (ap (λ m. with_rows (dropped m) (shown b k.bal)) (sym (lookup-number n b.rows r found)))
           found
           refl
-          (not-fulfilling b.time es e r (λ f. let q = f.is_answer in let z : ◌≡◌ {A = ℕ} 0 1 = cc in absurd (omega arith)) refl (ours-no-fulfill code.PeerUnreachable))
+          (not-fulfilling b.time es e r (λ f. let q = f.is_answer in absurd cc) refl (ours-no-fulfill code.PeerUnreachable))
 
       pub by-tick : (t : ℕ) (r : Pending) (es : List Event) (b : Books) (p p' : St) → Held es b p → due (time_at b t) b.rows ≡ Some r →
           held p' ≡ without (held p) r.number →
@@ -171,7 +168,7 @@ module _ (digest : List ℕ → List ℕ) {St : Type 0} (held : St → List ℕ)
           (ap (λ o. remove o (with_time (time_at b t) (shown b k.bal))) found)
           found
           refl
-          (not-fulfilling (time_at b t) es e r (λ f. let q = f.is_answer in let z : ◌≡◌ {A = ℕ} 0 1 = cc in absurd (omega arith)) refl (ours-no-fulfill code.TransferTimedOut))
+          (not-fulfilling (time_at b t) es e r (λ f. let q = f.is_answer in absurd cc) refl (ours-no-fulfill code.TransferTimedOut))
 
       -- what a fulfilling answer is read as
       fulfilling-reads : (now a n t : ℕ) (bytes : List ℕ) (r : Pending) (g : Fulfilling digest now (answer a n t bytes) r) → (bytes ≡ g.bytes) × (answer_in bytes ≡ Ok (fulfilled g.brought))
@@ -198,9 +195,9 @@ module _ (digest : List ℕ → List ℕ) {St : Type 0} (held : St → List ℕ)
           DecidedRight digest s.own now es (event (answer a n t bytes) reply bytes) r
       theirs-right now a n t bytes reply r x es reads e =
           not-fulfilling now es (event (answer a n t bytes) reply bytes) r
-          (λ g. let w = fulfilling-reads now a n t bytes r g in let v = w.1 in let z : ◌≡◌ {A = ℕ} 0 1 = cc in absurd (omega arith))
+          (λ g. let w = fulfilling-reads now a n t bytes r g in let v = w.1 in absurd cc)
           (sym (ap (answer_reject s.own now bytes r) reads ∙ ap (λ c. cond c bytes (our_bytes s.own code.TransferTimedOut 0 0)) e))
-          (λ f q. let z : ◌≡◌ {A = ℕ} 0 1 = cc in absurd (omega arith))
+          (λ f q. absurd cc)
 
       -- in time, with another hash
       wrong-right : (now a n t : ℕ) (bytes : List ℕ) (f : FulfillValue) (reply : Reply) (r : Pending) (es : List Event) → answer_in bytes ≡ Ok (fulfilled f) → ltb now r.expiry ≡ true → bytes_eq (digest f.fulfilment) r.condition ≡ false →
@@ -277,7 +274,7 @@ module _ (digest : List ℕ → List ℕ) {St : Type 0} (held : St → List ℕ)
           right.1
 
       -- a Prepare that is forwarded
-      module _ (rule : St → Transfer → Verdict) (later : (x : St) (t : Transfer) → NotLater t (rule x t)) where
+      module _ (rule : St → Transfer → Result Passed Rejected) (later : (x : St) (t : Transfer) → NotLater t (rule x t)) where
         fits-64 : (es : List Event) (b : Books) (p : St) → Held es b p → (to m : ℕ) → can_hold_out b.accounts to m ≡ true → m < 2 ^ 64
         fits-64 es b p k to m t =
             let two = and_parts (is_set_up b.accounts to) (takes_out m (figures_at b to)) t in
@@ -285,14 +282,14 @@ module _ (digest : List ℕ → List ℕ) {St : Type 0} (held : St → List ℕ)
             small-enough (figures_at first to) (figures_at b to) (k.bal to) (sum_in to b.rows) (sum_out to b.rows) m (k.accounts.1 to (omega (arith, k.accounts.0))) two.1
 
         -- the law of every stage on expiries, applied
-        not_after : (asked : Transfer) (x : St) (v : Passed) → rule x asked ≡ Pass v → v.expiry ≤ asked.expiry
+        not_after : (asked : Transfer) (x : St) (v : Passed) → rule x asked ≡ Ok v → v.expiry ≤ asked.expiry
         not_after asked x v e = subst (NotLater asked) e (later x asked)
 
         pub by-forward : (a q t : ℕ) (bytes : List ℕ) (asked : PrepareValue) (to : ℕ) (accounts : AccountPair) (v : Passed) (es : List Event) (b : Books) (p p' : St) → Held es b p →
             Bytes bytes →
             prepare_in bytes ≡ Ok asked →
             can_hold_in b.accounts a asked.amount ≡ true →
-            rule p (offered b (time_at b t) asked accounts) ≡ Pass v →
+            rule p (offered b (time_at b t) asked accounts) ≡ Ok v →
             can_hold_out b.accounts to v.amount ≡ true →
             held p' ≡ held p ++ (b.last + 1) ∷ [] →
             let o = forwards (time_at b t) (next_row b (reservation_for a q asked to v)) (onward asked v.amount v.expiry) in

@@ -1,10 +1,9 @@
 -- Lemmas on rows and their numbers.
-use Rattle.std.proofs.Common.{◌≡◌, ℕ, zero, suc, ◌+◌, ◌<◌, ◌≤◌, Bool, true, false, cond, ◌&&◌, eqb, ltb, leb, ◌⊎◌, List, [], ◌∷◌, length, get_or, Some, None, Option, sym, refl, ap, ◌∙◌, subst, inl, inr, ⊎_elim, arith}
-use Rattle.std.proofs.lemmas.Bool.{true≢false, eqb-true, eq-eqb, ne_eqb}
+use Rattle.std.proofs.Common.{◌≡◌, ℕ, zero, suc, ◌+◌, ◌<◌, ◌≤◌, Bool, true, false, cond, ◌&&◌, eqb, ltb, leb, ◌⊎◌, List, [], ◌∷◌, length, get_or, Some, None, Option, sym, refl, ◌∙◌, subst, inl, inr, ⊎_elim, arith}
 use Rattle.std.proofs.lemmas.Bool.Decides.{nat_tests}
 use Rattle.std.specs.List.{AllByRecursion}
 use Rattle.stage.specs.Numbers.{among, none_twice, without}
-use Rattle.stage.proofs.OpenLists.{not_first, without-none}
+use Rattle.stage.proofs.OpenLists.{without-none}
 use Rattle.pending.specs.declared.row.Pending.{Pending}
 use Rattle.pending.specs.Rows.{vacant, lookup, dropped, as_sent, marked, ends_before, earliest_from, earliest, if_reached, due}
 use Rattle.ledger.specs.Sums.{total}
@@ -12,42 +11,24 @@ use Rattle.protocol.specs.Runs.{numbers_of}
 
 pub numbers-marked : (n : ℕ) (rs : List Pending) → numbers_of (marked n rs) ≡ numbers_of rs
 numbers-marked n [] = refl
-numbers-marked n (r ∷ rs) =
-    elim (eqb r.number n)
-    as (λ b. numbers_of (cond b (as_sent r ∷ rs) (r ∷ marked n rs)) ≡ r.number ∷ numbers_of rs)
-    [ true ↦ refl | false ↦ ap (λ ns. r.number ∷ ns) (numbers-marked n rs) ]
+numbers-marked n (r ∷ rs) = let k = numbers-marked n rs in grind (arith, nat_tests)
 
 -- where no number stands twice, the numbers without one are those of the rows without its row
 pub numbers-dropped : (n : ℕ) (rs : List Pending) → none_twice (numbers_of rs) ≡ true → without (numbers_of rs) n ≡ numbers_of (dropped n rs)
 numbers-dropped n [] d = refl
-numbers-dropped n (r ∷ rs) d = go (numbers-dropped n rs (not_first (among (numbers_of rs) r.number) (none_twice (numbers_of rs)) d).1) (eqb r.number n) refl
-  where
-    h : (among (numbers_of rs) r.number ≡ false) × (none_twice (numbers_of rs) ≡ true)
-    h = not_first (among (numbers_of rs) r.number) (none_twice (numbers_of rs)) d
-
-    go : without (numbers_of rs) n ≡ numbers_of (dropped n rs) → (b : Bool) → eqb r.number n ≡ b → cond b (without (numbers_of rs) n) (r.number ∷ without (numbers_of rs) n) ≡ numbers_of (cond b rs (r ∷ dropped n rs))
-    go ih true t = without-none (numbers_of rs) n (subst (λ m. among (numbers_of rs) m ≡ false) (eqb-true r.number n t) h.0)
-    go ih false t = ap (λ ns. r.number ∷ ns) ih
+numbers-dropped n (r ∷ rs) d = let k = numbers-dropped n rs in let e = without-none (numbers_of rs) n in grind (arith, nat_tests)
 
 -- what is at a place is among the numbers
 at-among : (rs : List Pending) (i : ℕ) → i < length rs → among (numbers_of rs) (get_or rs i vacant).number ≡ true
 at-among [] i l = absurd (omega arith)
-at-among (r ∷ rs) zero l = ap (λ b. cond b true (among (numbers_of rs) r.number)) (eq-eqb r.number r.number refl)
-at-among (r ∷ rs) (suc i) l =
-    elim (eqb r.number (get_or rs i vacant).number)
-    as (λ b. cond b true (among (numbers_of rs) (get_or rs i vacant).number) ≡ true)
-    [ true ↦ refl | false ↦ at-among rs i (omega arith) ]
+at-among (r ∷ rs) zero l = grind (arith, nat_tests)
+at-among (r ∷ rs) (suc i) l = let k = at-among rs i (omega arith) in grind (arith, nat_tests)
 
 -- where no number stands twice, a row is the one that its number finds
 pub finds-its-row : (rs : List Pending) (i : ℕ) → i < length rs → none_twice (numbers_of rs) ≡ true → lookup (get_or rs i vacant).number rs ≡ Some (get_or rs i vacant)
 finds-its-row [] i l d = absurd (omega arith)
-finds-its-row (r ∷ rs) zero l d = ap (λ b. cond b (Some r) (lookup r.number rs)) (eq-eqb r.number r.number refl)
-finds-its-row (r ∷ rs) (suc i) l d =
-    let h = not_first (among (numbers_of rs) r.number) (none_twice (numbers_of rs)) d in
-    let there = at-among rs i (omega arith) in
-    ap (λ b. cond b (Some r) (lookup (get_or rs i vacant).number rs))
-    (ne_eqb r.number (get_or rs i vacant).number (λ e. true≢false (sym there ∙ ap (among (numbers_of rs)) (sym e) ∙ h.0)))
-    ∙ finds-its-row rs i (omega arith) h.1
+finds-its-row (r ∷ rs) zero l d = grind (arith, nat_tests)
+finds-its-row (r ∷ rs) (suc i) l d = let k = finds-its-row rs i in let there = at-among rs i (omega arith) in grind (arith, nat_tests)
 
 -- the row that ends first is the one at hand or one of the others
 abbrev FirstOf : Pending → Pending → List Pending → Type 0
@@ -64,7 +45,7 @@ first_of p [] = inl refl
 first_of p (r ∷ rs) = here-or-later p r rs (ends_before r p) (first_of r rs) (first_of p rs)
 
 earliest-place : (rs : List Pending) (r : Pending) → earliest rs ≡ Some r → (i : ℕ) × (i < length rs) × (get_or rs i vacant ≡ r)
-earliest-place [] r e = let z : ◌≡◌ {A = ℕ} 0 1 = cc in absurd (omega arith)
+earliest-place [] r e = absurd cc
 earliest-place (p ∷ rs) r e =
     let g : earliest_from p rs ≡ r = cc in
     ⊎_elim
@@ -81,10 +62,10 @@ due-found now rs r d e = go (earliest rs) refl e
 
     pick : (q : Pending) (b : Bool) → earliest rs ≡ Some q → cond b (Some q) None ≡ Some r → lookup r.number rs ≡ Some r
     pick q true t w = there (t ∙ w)
-    pick q false t w = let z : ◌≡◌ {A = ℕ} 0 1 = cc in absurd (omega arith)
+    pick q false t w = absurd cc
 
     go : (o : Option Pending) → earliest rs ≡ o → if_reached now o ≡ Some r → lookup r.number rs ≡ Some r
-    go None t w = let z : ◌≡◌ {A = ℕ} 0 1 = cc in absurd (omega arith)
+    go None t w = absurd cc
     go (Some q) t w = pick q (leb q.expiry now) t w
 
 -- what holds of each row
@@ -99,7 +80,7 @@ all-marked Q f n (r ∷ rs) h =
     elim (eqb r.number n) as (λ b. AllByRecursion Q (cond b (as_sent r ∷ rs) (r ∷ marked n rs))) [ true ↦ (f r h.0, h.1) | false ↦ (h.0, all-marked Q f n rs h.1) ]
 
 pub all_found : (Q : Pending → Type 0) (n : ℕ) (rs : List Pending) (r : Pending) → lookup n rs ≡ Some r → AllByRecursion Q rs → Q r
-all_found Q n [] r e h = let z : ◌≡◌ {A = ℕ} 0 1 = cc in absurd (omega arith)
+all_found Q n [] r e h = absurd cc
 all_found Q n (x ∷ rs) r e h =
     elim (eqb x.number n)
     as (λ b. cond b (Some x) (lookup n rs) ≡ Some r → Q r)
@@ -125,11 +106,7 @@ given-one last n l h = grind (arith, nat_tests)
 -- how many rows have a number, and whether one is found
 pub counted_none : (n : ℕ) (rs : List Pending) → total (numbered n) rs ≡ 0 → lookup n rs ≡ None
 counted_none n [] h = refl
-counted_none n (r ∷ rs) h =
-    elim (eqb r.number n)
-    as (λ b. cond {A = ℕ} b 1 0 + total (numbered n) rs ≡ 0 → cond b (Some r) (lookup n rs) ≡ None)
-    [ true ↦ λ q. absurd (omega arith) | false ↦ λ q. counted_none n rs (omega arith) ]
-    h
+counted_none n (r ∷ rs) h = let k = counted_none n rs in grind (arith, nat_tests)
 
 pub counted-some : (n : ℕ) (rs : List Pending) → total (numbered n) rs ≡ 1 → (r : Pending) × (lookup n rs ≡ Some r)
 counted-some n [] h = absurd (omega arith)

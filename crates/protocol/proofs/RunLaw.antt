@@ -13,8 +13,8 @@ use Rattle.packet.specs.Values.{PrepareValue}
 use Rattle.packet.specs.OneEncoding.{Bytes}
 use Rattle.stage.specs.declared.accounts.AccountPair.{AccountPair}
 use Rattle.stage.specs.declared.transfer.Transfer.{Transfer}
-use Rattle.stage.specs.declared.transfer.Verdict.{Verdict}
-use Rattle.stage.specs.declared.transfer.Verdict.TheVariants.{Pass, Reject}
+use Rattle.stage.specs.declared.transfer.Passed.{Passed}
+use Rattle.stage.specs.declared.transfer.Rejected.{Rejected}
 use Rattle.stage.specs.Numbers.{none_twice}
 use Rattle.stage.specs.Verdicts.{NotLater}
 use Rattle.accounts.specs.declared.figures.Figures.{Figures}
@@ -103,7 +103,7 @@ module _ (digest : List ℕ → List ℕ) {St : Type 0} (held : St → List ℕ)
         decisive = tt;
       }
 
-  module _ (first : Books) (valid : is_address s.own ≡ true) (rule : St → Transfer → Verdict) (later : (x : St) (t : Transfer) → NotLater t (rule x t)) (once : (x : St) → none_twice (held x) ≡ true) where
+  module _ (first : Books) (valid : is_address s.own ≡ true) (rule : St → Transfer → Result Passed Rejected) (later : (x : St) (t : Transfer) → NotLater t (rule x t)) (once : (x : St) → none_twice (held x) ≡ true) where
     -- what is kept, if a call turned out so
     abbrev So : Call → List Event → Books → St → St → Outcome → Type 0
     So c es b p p' o = StackAfter held p o p' → Kept digest held s first (event c (reply_of s o) (written s o) ∷ es) (books_after b o) p'
@@ -132,10 +132,10 @@ module _ (digest : List ℕ → List ℕ) {St : Type 0} (held : St → List ℕ)
         no-go : (x : RejectCode) (m n : ℕ) (f : Option Fault) → Q (rejects (time_at b t) a q x m n f)
         no-go x m n f pp = by-reject digest held s first a q t bytes x m n f es b p p' k pp
 
-        by-verdict : (asked : PrepareValue) (to : ℕ) (accounts : AccountPair) (v : Verdict) → prepare_in bytes ≡ Ok asked → can_hold_in b.accounts a asked.amount ≡ true → rule p (offered b (time_at b t) asked accounts) ≡ v →
+        by-verdict : (asked : PrepareValue) (to : ℕ) (accounts : AccountPair) (v : Result Passed Rejected) → prepare_in bytes ≡ Ok asked → can_hold_in b.accounts a asked.amount ≡ true → rule p (offered b (time_at b t) asked accounts) ≡ v →
             Q (Calls.by_verdict b a q (time_at b t) asked to v)
-        by-verdict asked to accounts (Reject r) e fits says = no-go r.code r.first r.second None
-        by-verdict asked to accounts (Pass v) e fits says =
+        by-verdict asked to accounts (Err r) e fits says = no-go r.code r.first r.second None
+        by-verdict asked to accounts (Ok v) e fits says =
             by-test Q (can_hold_out b.accounts to v.amount) (forwards (time_at b t) (next_row b (reservation_for a q asked to v)) (onward asked v.amount v.expiry)) (plain_reject (time_at b t) a q code.InsufficientLiquidity)
             (λ out hh. by-forward digest held s first once valid rule later a q t bytes asked to accounts v es b p p' k these e fits says out hh)
             (λ _. no-go code.InsufficientLiquidity 0 0 None)
@@ -258,7 +258,7 @@ module _ (digest : List ℕ → List ℕ) {St : Type 0} (held : St → List ℕ)
         by-account true = by_way (leb way 1)
         by-account false = no-settling refusal.NoAccount
 
-module _ {St : Type 0} (held : St → List ℕ) (rule : St → Transfer → Verdict) (digest : List ℕ → List ℕ) (later : (x : St) (t : Transfer) → NotLater t (rule x t)) (once : (x : St) → none_twice (held x) ≡ true) where
+module _ {St : Type 0} (held : St → List ℕ) (rule : St → Transfer → Result Passed Rejected) (digest : List ℕ → List ℕ) (later : (x : St) (t : Transfer) → NotLater t (rule x t)) (once : (x : St) → none_twice (held x) ≡ true) where
   module _ (s : SetUp) (first : Books) where
     abbrev Runs : List Event → Books → St → Type 0
     Runs es b p = Run digest held rule s first es b p

@@ -9,8 +9,7 @@ use Rattle.packet.specs.Values.{PrepareValue}
 use Rattle.stage.specs.declared.accounts.AccountPair.{AccountPair}
 use Rattle.stage.specs.declared.transfer.Transfer.{Transfer}
 use Rattle.stage.specs.declared.transfer.Passed.{Passed}
-use Rattle.stage.specs.declared.transfer.Verdict.{Verdict}
-use Rattle.stage.specs.declared.transfer.Verdict.TheVariants.{Pass, Reject}
+use Rattle.stage.specs.declared.transfer.Rejected.{Rejected}
 use Rattle.accounts.specs.Figures.{is_set_up, can_hold_in, can_hold_out}
 use Rattle.pending.specs.declared.row.Pending.{Pending}
 use Rattle.pending.specs.Rows.{lookup, due}
@@ -61,25 +60,25 @@ abbrev pub plain_reject : (now a q : ℕ) → Rattle.wire.specs.declared.code.Re
 plain_reject now a q c = rejects now a q c 0 0 None
 
 -- the stack's verdict, and then whether the passed amount can be held out
-abbrev pub by_verdict : Books → (a q now : ℕ) → PrepareValue → (to : ℕ) → Verdict → Outcome
-by_verdict b a q now p to (Reject r) = rejects now a q r.code r.first r.second None
-by_verdict b a q now p to (Pass v) =
+abbrev pub by_verdict : Books → (a q now : ℕ) → PrepareValue → (to : ℕ) → Result Passed Rejected → Outcome
+by_verdict b a q now p to (Err r) = rejects now a q r.code r.first r.second None
+by_verdict b a q now p to (Ok v) =
     cond (can_hold_out b.accounts to v.amount)
     (forwards now (next_row b (reservation_for a q p to v)) (onward p v.amount v.expiry))
     (plain_reject now a q code.InsufficientLiquidity)
 
 -- the amount can be held in, and the stack looks at the transfer
-abbrev pub by_pair : (Transfer → Verdict) → Books → (a q now : ℕ) → PrepareValue → (to : ℕ) → Option AccountPair → Outcome
+abbrev pub by_pair : (Transfer → Result Passed Rejected) → Books → (a q now : ℕ) → PrepareValue → (to : ℕ) → Option AccountPair → Outcome
 by_pair look b a q now p to None = plain_reject now a q code.Unreachable
 by_pair look b a q now p to (Some accounts) =
     cond (can_hold_in b.accounts a p.amount) (by_verdict b a q now p to (look (offered b now p accounts))) (plain_reject now a q code.InsufficientLiquidity)
 
 -- no route, or one to the account that the packet came from
-abbrev pub by_route : (Transfer → Verdict) → Books → (a q now : ℕ) → PrepareValue → Option ℕ → Outcome
+abbrev pub by_route : (Transfer → Result Passed Rejected) → Books → (a q now : ℕ) → PrepareValue → Option ℕ → Outcome
 by_route look b a q now p None = plain_reject now a q code.Unreachable
 by_route look b a q now p (Some to) = by_pair look b a q now p to (pair_of a to)
 
-abbrev pub by_prepare : (Transfer → Verdict) → SetUp → Books → (a q now : ℕ) → Result PrepareValue Fault → Outcome
+abbrev pub by_prepare : (Transfer → Result Passed Rejected) → SetUp → Books → (a q now : ℕ) → Result PrepareValue Fault → Outcome
 by_prepare look s b a q now (Err f) = rejects now a q code.InvalidPacket 0 0 (Some f)
 by_prepare look s b a q now (Ok p) =
     cond (has_number b)
@@ -88,7 +87,7 @@ by_prepare look s b a q now (Ok p) =
     (by_route look b a q now p (route_for s.routes p.destination))))
     (plain_reject now a q code.InternalError)
 
-unfoldable pub prepare_outcome : (Transfer → Verdict) → SetUp → Books → (room a q t : ℕ) → List ℕ → Outcome
+unfoldable pub prepare_outcome : (Transfer → Result Passed Rejected) → SetUp → Books → (room a q t : ℕ) → List ℕ → Outcome
 prepare_outcome look s b room a q t bytes = if_roomy room (if_set_up b a (if_timely t (by_prepare look s b a q (time_at b t) (prepare_in bytes))))
 
 -- SENT and UNSENT: of a packet that is pending and not marked as sent

@@ -6,7 +6,8 @@ use Rattle.address.specs.Addresses.{is_address}
 use Rattle.packet.specs.Values.{PrepareValue, FulfillValue}
 use Rattle.packet.specs.OneEncoding.{Bytes}
 use Rattle.stage.specs.declared.transfer.Transfer.{Transfer}
-use Rattle.stage.specs.declared.transfer.Verdict.{Verdict}
+use Rattle.stage.specs.declared.transfer.Passed.{Passed}
+use Rattle.stage.specs.declared.transfer.Rejected.{Rejected}
 use Rattle.accounts.specs.declared.figures.Figures.{Figures}
 use Rattle.accounts.specs.declared.limits.Limits.{Limits}
 use Rattle.accounts.specs.Figures.{Keeps}
@@ -155,7 +156,7 @@ module _ (digest : List ℕ → List ℕ) where
       pub balances_match_the_sheet : BalancesMatch first (sheet digest es) b
       pub a_fulfilment_needs_the_secret_in_time : AFulfilmentNeedsTheSecretInTime s.own es
 
-    module _ (rule : St → Transfer → Verdict) where
+    module _ (rule : St → Transfer → Result Passed Rejected) where
       -- A run: its events, the latest first, and the books and the stack that they came to. Any call may come at any
       -- time, sent and unsent with any number; each turns out by its relation.
       pub data Run (s : SetUp) (first : Books) : List Event → Books → St → Type 0 where
@@ -179,7 +180,7 @@ module _ (digest : List ℕ → List ℕ) where
           (later earlier : List Event) → es ≡ later ++ earlier → (b : Books) × (p : St) × Run s first earlier b p × Promise s first earlier b p
 
 -- for every set-up, every run and every prefix of it
-abbrev pub EveryRun : {St : Type 0} → (St → List ℕ) → (St → Transfer → Verdict) → (List ℕ → List ℕ) → Type 0
+abbrev pub EveryRun : {St : Type 0} → (St → List ℕ) → (St → Transfer → Result Passed Rejected) → (List ℕ → List ℕ) → Type 0
 EveryRun {St} held rule digest =
     (s : SetUp) (first b : Books) (es : List Event) (p : St) → Run digest held rule s first es b p
     → Promise digest held s first es b p × AfterEveryPrefix digest held rule s first es

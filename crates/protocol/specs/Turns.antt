@@ -1,7 +1,8 @@
 -- What an outcome answers, writes and leaves, said once for all calls; and the six calls, each by its relation. Assumes nothing.
-use Rattle.std.specs.Prelude.{◌≡◌, ℕ, false, List, [], ◌∷◌, ◌++◌, length, drop}
+use Rattle.std.specs.Prelude.{◌≡◌, ℕ, false, List, [], ◌∷◌, ◌++◌, length, drop, Result}
 use Rattle.stage.specs.declared.transfer.Transfer.{Transfer}
-use Rattle.stage.specs.declared.transfer.Verdict.{Verdict}
+use Rattle.stage.specs.declared.transfer.Passed.{Passed}
+use Rattle.stage.specs.declared.transfer.Rejected.{Rejected}
 use Rattle.stage.specs.Numbers.{among, without}
 use Rattle.ledger.specs.Books.{Books, admitted, marked_at, closed, rebalanced}
 use Rattle.protocol.specs.declared.ended.Ended.{Ended}
@@ -82,7 +83,7 @@ module _ {St : Type 0} (held : St → List ℕ) where
   abbrev pub SettleDoes : SetUp → Books → St → (a way amount : ℕ) → Reply → Books → St → Type 0
   SettleDoes s b p a way amount reply b' p' = TurnsOut s b p (settle_outcome b a way amount) [] reply b' p' []
 
-  abbrev pub PrepareDoes : (St → Transfer → Verdict) → SetUp → Books → St → (a q t : ℕ) → (bytes buffer : List ℕ) → Reply → Books → St → List ℕ → Type 0
+  abbrev pub PrepareDoes : (St → Transfer → Result Passed Rejected) → SetUp → Books → St → (a q t : ℕ) → (bytes buffer : List ℕ) → Reply → Books → St → List ℕ → Type 0
   PrepareDoes rule s b p a q t bytes buffer = TurnsOut s b p (prepare_outcome (rule p) s b (length buffer) a q t bytes) buffer
 
   abbrev pub AnswerDoes : (List ℕ → List ℕ) → SetUp → Books → St → (a n t : ℕ) → (bytes buffer : List ℕ) → Reply → Books → St → List ℕ → Type 0

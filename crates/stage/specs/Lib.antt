@@ -1,5 +1,4 @@
 pub mod Accounts
-pub mod Finds
 pub mod Numbers
 pub mod Opened
 pub mod Rules

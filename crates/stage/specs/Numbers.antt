@@ -1,18 +1,17 @@
 -- Lists of numbers. Assumes nothing.
-use Rattle.std.specs.Prelude.{ℕ, Bool, true, false, cond, List, [], ◌∷◌, ◌==◌}
+use Rattle.std.specs.Prelude.{ℕ, Bool, true, false, not, ◌&&◌, List, [], ◌∷◌, ◌==◌}
+use Rattle.std.specs.List.{filter, list_any}
 
 abbrev pub among : List ℕ → ℕ → Bool
-among [] n = false
-among (x ∷ xs) n = cond (x == n) true (among xs n)
+among xs n = list_any (λ x. x == n) xs
 
 abbrev pub none_twice : List ℕ → Bool
 none_twice [] = true
-none_twice (x ∷ xs) = cond (among xs x) false (none_twice xs)
+none_twice (x ∷ xs) = not (among xs x) && none_twice xs
 
 -- the others, in their order
 abbrev pub without : List ℕ → ℕ → List ℕ
-without [] n = []
-without (x ∷ xs) n = cond (x == n) (without xs n) (x ∷ without xs n)
+without xs n = filter (λ x. not (x == n)) xs
 
 abbrev pub is_empty : List ℕ → Bool
 is_empty [] = true

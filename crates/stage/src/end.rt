@@ -2,13 +2,11 @@
 ghost use Rattle.std.specs.Prelude.{◌≡◌, []};
 ghost use Rattle.stage.specs.Opened.{opened};
 ghost use Rattle.stage.specs.Rules.{end_rule};
-ghost use Rattle.stage.specs.Verdicts.{rejects};
 ghost use Rattle.std.proofs.Common.{rules};
 
 use crate::interface::Stage;
-use crate::numbers::OpenNumbers;
-use crate::numbers::calls::MOST_OPEN;
-use crate::transfer::{Passed, Rejected, Transfer, Verdict};
+use crate::numbers::{MOST_OPEN, OpenNumbers};
+use crate::transfer::{Passed, Transfer, Verdict};
 use wire::code::RejectCode;
 
 #[derive(Clone, Copy)]
@@ -26,16 +24,6 @@ impl End {
     }
 }
 
-fn rejected(code: RejectCode) -> Verdict
-    ensures { result ≡ rejects code 0 0 }
-{
-    Verdict::Reject(Rejected {
-        code,
-        first: 0,
-        second: 0,
-    })
-}
-
 impl Stage for End {
     ghost held = { λ s. opened s.numbers };
 
@@ -49,19 +37,19 @@ impl Stage for End {
 
     fn look(&self, transfer: Transfer) -> Verdict {
         if self.numbers.has(transfer.number) {
-            return rejected(RejectCode::InternalError);
+            return Err(RejectCode::InternalError.into());
         }
         if self.numbers.count() >= MOST_OPEN {
-            return rejected(RejectCode::ConnectorBusy);
+            return Err(RejectCode::ConnectorBusy.into());
         }
-        Verdict::Pass(Passed {
+        Ok(Passed {
             amount: transfer.amount,
             expiry: transfer.expiry,
         })
     }
 
     fn take(&mut self, transfer: Transfer) {
-        if !self.numbers.has(transfer.number) && self.numbers.count() < MOST_OPEN {
+        if self.look(transfer).is_ok() {
             self.numbers.add(transfer.number);
         }
     }

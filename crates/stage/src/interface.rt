@@ -1,7 +1,8 @@
 // What a stage is.
-ghost use Rattle.std.specs.Prelude.{◌≡◌, ℕ, true, false, List};
+ghost use Rattle.std.specs.Prelude.{◌≡◌, ℕ, true, false, List, Result};
 ghost use Rattle.stage.specs.declared.transfer.Transfer.{Transfer};
-ghost use Rattle.stage.specs.declared.transfer.Verdict.{Verdict};
+ghost use Rattle.stage.specs.declared.transfer.Passed.{Passed};
+ghost use Rattle.stage.specs.declared.transfer.Rejected.{Rejected};
 ghost use Rattle.stage.specs.Numbers.{among, none_twice, without, is_empty};
 ghost use Rattle.stage.specs.Verdicts.{passes, NotLater, open_after, SameIfRejected};
 
@@ -14,7 +15,7 @@ pub trait Stage {
     ghost held: { Self → List ℕ };
 
     // How `look` answers in the present state.
-    ghost rule: { Self → Transfer → Verdict };
+    ghost rule: { Self → Transfer → Result Passed Rejected };
 
     // Says what the rule says, and changes nothing.
     fn look(&self, transfer: Transfer) -> Verdict

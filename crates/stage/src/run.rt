@@ -25,23 +25,7 @@ pub fn apply<S: Stage>(stage: &mut S, change: Change) -> Option<Verdict>
 }
 
 // All the changes in order, with an answer for each. The memory for the answers is got first, so that for want of it
-// nothing is done at all.
-fn execute_all<S: Stage>(
-    heap: Global,
-    stage: &mut S,
-    changes: &[Change],
-) -> Result<Vec<Option<Verdict>>, AllocError>
-    ensures { MatchResult result (λ v. Run S.Stage.held S.Stage.rule stage.old changes.now v.items stage.new) (λ _. stage.new ≡ stage.old) }
-{
-    let mut answers = Vec::with_capacity(heap, changes.len())?;
-    for change in changes {
-        let answer = apply(stage, *change);
-        answers.push_reserved(answer);
-    }
-    Ok(answers)
-}
-
-// The same, with what is known after every run: the open numbers are those taken and not closed since, in order.
+// nothing is done at all. After every run the open numbers are those taken and not closed since, in order.
 pub fn execute<S: Stage>(
     heap: Global,
     stage: &mut S,
@@ -51,5 +35,9 @@ pub fn execute<S: Stage>(
     ensures numbers { IfOk result (λ v. S.Stage.held stage.new ≡ open_since (S.Stage.held stage.old) changes.now v.items) }
     ensures every_run { RunsKeepTheNumbers S.Stage.held S.Stage.rule }
 {
-    execute_all(heap, stage, changes)
+    let mut answers = Vec::with_capacity(heap, changes.len())?;
+    for change in changes {
+        answers.push_reserved(apply(stage, *change));
+    }
+    Ok(answers)
 }

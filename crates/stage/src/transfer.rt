@@ -1,4 +1,7 @@
 // What is put to a stage, and what it answers.
+ghost use Rattle.std.specs.Prelude.{◌≡◌};
+ghost use Rattle.stage.specs.Verdicts.{plainly};
+
 use crate::accounts::AccountPair;
 use wire::code::RejectCode;
 
@@ -28,8 +31,17 @@ pub struct Rejected {
     pub second: u64,
 }
 
-#[derive(Clone, Copy)]
-pub enum Verdict {
-    Pass(Passed),
-    Reject(Rejected),
+impl From<RejectCode> for Rejected {
+    // the code with no numbers beside it
+    ghost from_gives = { λ c r. r ≡ plainly c };
+
+    fn from(code: RejectCode) -> Rejected {
+        Rejected {
+            code,
+            first: 0,
+            second: 0,
+        }
+    }
 }
+
+pub type Verdict = Result<Passed, Rejected>;

@@ -9,8 +9,8 @@ use Rattle.calendar.specs.Calendar.{instant_of, digits_of}
 use Rattle.packet.specs.Fields.{read_expiry}
 use Rattle.wire.specs.declared.code.RejectCode.TheVariants.{InsufficientSourceAmount}
 use Rattle.stage.specs.declared.transfer.Transfer.{Transfer}
-use Rattle.layers.specs.declared.own.Own.TheVariants.{Onward}
-use Rattle.layers.specs.Layers.{with_amount, rejects_own, rate_own}
+use Rattle.stage.specs.Verdicts.{rejects}
+use Rattle.layers.specs.Layers.{with_amount, rate_own}
 
 -- a determinant of these bytes is read as the length n, by the wrapper and by a field, and nothing is left after it
 pub record ReadAs (bytes : List ℕ) (n : ℕ) (end : ℕ) : Type 0 where
@@ -51,6 +51,6 @@ pub record EdgeFigures : Type 0 where
   pub not_shortest_wrapper : determinant Wrapper CutDeterminant (at 0 (0x81 ∷ 0x7F ∷ [])) ≡ fails Wrapper BadDeterminant (at 0 (0x81 ∷ 0x7F ∷ []))
   pub not_shortest_field : determinant Field CutShort (at 0 (0x81 ∷ 0x7F ∷ [])) ≡ fails Field BadDeterminant (at 0 (0x81 ∷ 0x7F ∷ []))
   -- amount 10 at prices 3 to 7 becomes 4, amount 2 at prices 1 to 3 becomes nothing and gets R01, and amount 0 passes as 0
-  pub ten_at_3_to_7 : (t : Transfer) → Between0And1 t → t.amount ≡ 10 → rate_own (3 ∷ 7 ∷ []) t ≡ Onward (with_amount t 4)
-  pub two_at_1_to_3 : (t : Transfer) → Between0And1 t → t.amount ≡ 2 → rate_own (1 ∷ 3 ∷ []) t ≡ rejects_own InsufficientSourceAmount
-  pub nothing_at_1_to_3 : (t : Transfer) → Between0And1 t → t.amount ≡ 0 → rate_own (1 ∷ 3 ∷ []) t ≡ Onward (with_amount t 0)
+  pub ten_at_3_to_7 : (t : Transfer) → Between0And1 t → t.amount ≡ 10 → rate_own (3 ∷ 7 ∷ []) t ≡ Ok (with_amount t 4)
+  pub two_at_1_to_3 : (t : Transfer) → Between0And1 t → t.amount ≡ 2 → rate_own (1 ∷ 3 ∷ []) t ≡ rejects InsufficientSourceAmount 0 0
+  pub nothing_at_1_to_3 : (t : Transfer) → Between0And1 t → t.amount ≡ 0 → rate_own (1 ∷ 3 ∷ []) t ≡ Ok (with_amount t 0)

@@ -19,7 +19,6 @@ use pending::row::Pending;
 use protocol::ended::Ended;
 use protocol::refusal::Refusal;
 use stage::interface::Stage;
-use stage::transfer::Rejected;
 use wire::code::RejectCode;
 
 impl<S: Stage, H: ConditionHash> Connector<S, H> {
@@ -41,15 +40,10 @@ impl<S: Stage, H: ConditionHash> Connector<S, H> {
         ensures value { result ≡ ended_as row.now.sender row.now.request (our_bytes (set_up_of self.now).own code 0 0) }
         ensures buffer { buffer.new ≡ our_bytes (set_up_of self.now).own code 0 0 ++ drop (length (our_bytes (set_up_of self.now).own code 0 0)) buffer.old }
     {
-        let rejected = Rejected {
-            code,
-            first: 0,
-            second: 0,
-        };
         Ended {
             sender: row.sender,
             request: row.request,
-            length: write_our_reject(&self.own, rejected, buffer),
+            length: write_our_reject(&self.own, code.into(), buffer),
         }
     }
 

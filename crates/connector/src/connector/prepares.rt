@@ -8,7 +8,7 @@ ghost use Rattle.protocol.specs.Turns.{ended_as, PrepareDoes};
 ghost use Rattle.connector.specs.Replies.{forwarded_reply, prepared_reply};
 ghost use Rattle.packet.specs.Values.{prepare_of};
 ghost use Rattle.protocol.specs.Calls.{by_prepare, room_needed, reservation_for};
-ghost use Rattle.connector.specs.Decisions.{plainly, goes_to, going, decided, Ready};
+ghost use Rattle.connector.specs.Decisions.{goes_to, going, decided, Ready};
 ghost use Rattle.connector.specs.Views.{books_of, set_up_of, SetUpStays, SameUnless};
 
 use super::Connector;
@@ -26,21 +26,10 @@ use protocol::ended::{Ended, Rejected as TurnedAway};
 use protocol::refusal::Refusal;
 use stage::accounts::AccountPair;
 use stage::interface::Stage;
-use stage::transfer::{Rejected, Transfer, Verdict};
+use stage::transfer::{Rejected, Transfer};
 use wire::code::RejectCode;
 use wire::fault::Fault;
 use wire::writing::put;
-
-// A code with no numbers beside it.
-fn plain(code: RejectCode) -> Rejected
-    ensures { result ≡ plainly code }
-{
-    Rejected {
-        code,
-        first: 0,
-        second: 0,
-    }
-}
 
 impl<S: Stage, H: ConditionHash> Connector<S, H> {
     // A peer sends a Prepare.
@@ -69,7 +58,7 @@ impl<S: Stage, H: ConditionHash> Connector<S, H> {
         let prepare = match read_prepare(bytes) {
             Ok(prepare) => prepare,
             Err(fault) => {
-                let rejected = plain(RejectCode::InvalidPacket);
+                let rejected = RejectCode::InvalidPacket.into();
                 return Ok(Prepared::Rejected(self.turn_away(
                     account,
                     request,
@@ -95,23 +84,23 @@ impl<S: Stage, H: ConditionHash> Connector<S, H> {
         ensures ready { Ready (S.rule self.now.stages) (books_of self.now) account (prepare_of prepare.now) result }
     {
         let Some(number) = self.ledger.next_number() else {
-            return Err(plain(RejectCode::InternalError));
+            return Err(RejectCode::InternalError.into());
         };
         if self.ledger.is_full() {
-            return Err(plain(RejectCode::ConnectorBusy));
+            return Err(RejectCode::ConnectorBusy.into());
         }
         let time = self.ledger.time();
         if prepare.expiry <= time {
-            return Err(plain(RejectCode::TransferTimedOut));
+            return Err(RejectCode::TransferTimedOut.into());
         }
         let Some(to) = self.routes.find(prepare.destination) else {
-            return Err(plain(RejectCode::Unreachable));
+            return Err(RejectCode::Unreachable.into());
         };
         let Some(accounts) = AccountPair::new(account, to) else {
-            return Err(plain(RejectCode::Unreachable));
+            return Err(RejectCode::Unreachable.into());
         };
         if !self.ledger.can_hold_in(account, prepare.amount) {
-            return Err(plain(RejectCode::InsufficientLiquidity));
+            return Err(RejectCode::InsufficientLiquidity.into());
         }
         let transfer = Transfer {
             number,
@@ -120,15 +109,11 @@ impl<S: Stage, H: ConditionHash> Connector<S, H> {
             expiry: prepare.expiry,
             time,
         };
-        match self.stages.look(transfer) {
-            Verdict::Reject(rejected) => Err(rejected),
-            Verdict::Pass(passed) => {
-                if !self.ledger.can_hold_out(to, passed.amount) {
-                    return Err(plain(RejectCode::InsufficientLiquidity));
-                }
-                Ok(Onward { transfer, passed })
-            }
+        let passed = self.stages.look(transfer)?;
+        if !self.ledger.can_hold_out(to, passed.amount) {
+            return Err(RejectCode::InsufficientLiquidity.into());
         }
+        Ok(Onward { transfer, passed })
     }
 
     // Reserves what was decided, takes it in the stack, and writes the packet as it goes on.

@@ -27,11 +27,11 @@ fn transfer(number: u32, amount: u64, expiry: u64, time: u64) -> Result<Transfer
 // Passed with this amount and this expiry.
 fn check_passed(rt: &impl Abort, verdict: Verdict, amount: u64, expiry: u64, name: &impl Display) {
     match verdict {
-        Verdict::Pass(passed) => {
+        Ok(passed) => {
             assert_eq!(rt; passed.amount, amount, "{name}");
             assert_eq!(rt; passed.expiry, expiry, "{name}");
         }
-        Verdict::Reject(_) => panic!(rt; "{name}: rejected"),
+        Err(_) => panic!(rt; "{name}: rejected"),
     }
 }
 
@@ -44,8 +44,8 @@ fn check_rejected(
     name: &impl Display,
 ) {
     match verdict {
-        Verdict::Pass(_) => panic!(rt; "{name}: passed"),
-        Verdict::Reject(rejected) => {
+        Ok(_) => panic!(rt; "{name}: passed"),
+        Err(rejected) => {
             assert!(rt; &rejected.code.bytes()[..] == code, "{name}: code");
             assert_eq!(rt; rejected.first, first, "{name}: first");
             assert_eq!(rt; rejected.second, second, "{name}: second");

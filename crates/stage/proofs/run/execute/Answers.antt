@@ -1,23 +1,24 @@
-use Rattle.std.proofs.Common.{◌≡◌, IfOk, Ok, Err, vec_items, Result, MatchResult}
-use Rattle.stage.specs.Runs.{Run, open_since}
-use Rattle.stage.proofs.Executed.{runs-keep}
+use Rattle.std.proofs.Common.{vec_items, subst, arith, take_all}
+use Rattle.stage.specs.Runs.{Step}
+use Rattle.stage.proofs.Executed.{run-next, runs-keep}
 use Rattle.stage.proofs.run.execute.Goals as goal
 
-cases-then : {X Y : Type 0} (P Q : X → Type 0) (R : Y → Type 0) (r : Result X Y) → ((x : X) → P x → Q x) → MatchResult r P R → IfOk r Q
-cases-then P Q R (Ok x) f h = f x h
-cases-then P Q R (Err y) f h = tt
+pub loop-change-preserved : goal.loop-change-preserved
+loop-change-preserved g c =
+    let held = g.S.Stage.held in
+    let rule = g.S.Stage.rule in
+    let before = c.loop-change.stage in
+    let after = c.apply.new.stage in
+    let done = c.loop-change.change-index in
+    let step = subst (λ x. Step held rule before x c.apply.result after) c.change-item.is c.apply.ensures in
+    let more = run-next held rule c.args.stage.now before after c.args.changes.now (vec_items c.loop-change.answers) done c.change-item.result c.apply.result c.loop-change-test.true c.loop-change.invariant.0 step in
+    (rw c.push_reserved.ensures.items more, omega arith, omega arith)
 
 pub returns : goal.returns
 returns g c =
-    let held = g.S.Stage.held in
-    let rule = g.S.Stage.rule in
-    let s = c.args.stage.now in
-    let t = c.execute_all.new.stage in
-    let keeps = runs-keep held rule g.met.S.Stage.once in
-    record {
-      run = c.execute_all.ensures;
-      numbers =
-          cases-then (λ v. Run held rule s c.args.changes.now (vec_items v) t) (λ v. held t ≡ open_since (held s) c.args.changes.now (vec_items v)) (λ _. t ≡ s)
-          c.execute_all.result (λ v r. (keeps s t c.args.changes.now (vec_items v) r).0) c.execute_all.ensures;
-      every_run = keeps;
-    }
+    let keeps = runs-keep g.S.Stage.held g.S.Stage.rule g.met.S.Stage.once in
+    let ran = rw (take_all _ c.args.changes.now c.loop-change-test.false) at c.loop-change.invariant.0 in
+    record { run = ran; numbers = (keeps _ _ _ _ ran).0; every_run = keeps }
+
+pub returns-in_err-answers-clause-every_run : goal.returns-in_err-answers-clause-every_run
+returns-in_err-answers-clause-every_run g c = runs-keep g.S.Stage.held g.S.Stage.rule g.met.S.Stage.once

@@ -1,15 +1,16 @@
-use Rattle.std.proofs.Common.{◌≡◌, ℕ, ◌+◌, Bool, true, false, cond, Some, None, sym, refl, ap, ◌∙◌, arith}
+use Rattle.std.proofs.Common.{◌≡◌, ℕ, ◌+◌, Bool, true, false, cond, Some, None, sym, refl, ap, ◌∙◌, arith, Err, Ok, Result, subst}
 use Rattle.std.specs.Bool.{then_some}
+use Rattle.std.specs.Result.{IsErrAnd}
 use Rattle.wire.specs.declared.code.RejectCode.TheVariants as code
 use Rattle.packet.specs.Values.{prepare_of}
 use Rattle.stage.specs.declared.transfer.Rejected.{Rejected}
-use Rattle.stage.specs.declared.transfer.Verdict.TheVariants.{Pass, Reject}
 use Rattle.accounts.specs.Figures.{can_hold_out}
 use Rattle.ledger.specs.Books.{has_number, next_row}
 use Rattle.ledger.proofs.Same.{told-some}
 use Rattle.protocol.specs.Messages.{onward}
 use Rattle.protocol.specs.Outcomes.{rejects, forwards}
 use Rattle.protocol.specs.Calls.{reservation_for, plain_reject}
+use Rattle.connector.specs.Decisions.{decided, Ready}
 use Rattle.connector.specs.Views.{books_of, set_up_of}
 use Rattle.connector.proofs.OnePair.{pair_is}
 use Rattle.connector.proofs.Deciding.{no_number, full, late, on-route, paired, no-credit-in, looked, offered-so, can-reserve}
@@ -27,7 +28,7 @@ pub returns-in_default : goal.returns-in_default
 returns-in_default g c =
     let k = c.args.self.now in
     record {
-      value = λ q. by_parts _ _ q _ _ c.plain.ensures ∙ no_number (g.S.Stage.rule k.stages) (set_up_of k) (books_of k) c.args.account q (prepare_of c.args.prepare.now) (none_told (has_number (books_of k)) ((books_of k).last + 1) c.in_default.ensures);
+      value = λ q. by_parts _ _ q _ _ c.into.ensures ∙ no_number (g.S.Stage.rule k.stages) (set_up_of k) (books_of k) c.args.account q (prepare_of c.args.prepare.now) (none_told (has_number (books_of k)) ((books_of k).last + 1) c.in_default.ensures);
       ready = tt;
     }
 
@@ -36,7 +37,7 @@ returns-then-is_full g c =
     let k = c.args.self.now in
     let n = told-some (has_number (books_of k)) ((books_of k).last + 1) c.in-Some.number c.in-Some.ensures in
     record {
-      value = λ q. by_parts _ _ q _ _ c.plain-then-is_full.ensures ∙ full (g.S.Stage.rule k.stages) (set_up_of k) (books_of k) c.args.account q (prepare_of c.args.prepare.now) n.0 c.if-is_full.ensures;
+      value = λ q. by_parts _ _ q _ _ c.into-then-is_full.ensures ∙ full (g.S.Stage.rule k.stages) (set_up_of k) (books_of k) c.args.account q (prepare_of c.args.prepare.now) n.0 c.if-is_full.ensures;
       ready = tt;
     }
 
@@ -45,7 +46,7 @@ returns-then-prepare-time g c =
     let k = c.args.self.now in
     let n = told-some (has_number (books_of k)) ((books_of k).last + 1) c.in-Some.number c.in-Some.ensures in
     record {
-      value = λ q. by_parts _ _ q _ _ c.plain-then-prepare-time.ensures ∙ late (g.S.Stage.rule k.stages) (set_up_of k) (books_of k) c.args.account q (prepare_of c.args.prepare.now) n.0 c.if-is_full.ensures (omega (arith, c.time-time.ensures));
+      value = λ q. by_parts _ _ q _ _ c.into-then-prepare-time.ensures ∙ late (g.S.Stage.rule k.stages) (set_up_of k) (books_of k) c.args.account q (prepare_of c.args.prepare.now) n.0 c.if-is_full.ensures (omega (arith, c.time-time.ensures));
       ready = tt;
     }
 
@@ -55,7 +56,7 @@ returns-in_default-find g c =
     let n = told-some (has_number (books_of k)) ((books_of k).last + 1) c.in-Some.number c.in-Some.ensures in
     record {
       value = λ q.
-          by_parts _ _ q _ _ c.plain-in_default-find.ensures
+          by_parts _ _ q _ _ c.into-in_default-find.ensures
           ∙ on-route (g.S.Stage.rule k.stages) (set_up_of k) (books_of k) c.args.account q (prepare_of c.args.prepare.now)
           (record { number = n.0; room = c.if-is_full.ensures; timely-yet = omega (arith, c.time-time.ensures) }) None c.in_default-find.ensures.value;
       ready = tt;
@@ -67,7 +68,7 @@ returns-in_default-new g c =
     let n = told-some (has_number (books_of k)) ((books_of k).last + 1) c.in-Some.number c.in-Some.ensures in
     record {
       value = λ q.
-          by_parts _ _ q _ _ c.plain-in_default-new.ensures
+          by_parts _ _ q _ _ c.into-in_default-new.ensures
           ∙ paired (g.S.Stage.rule k.stages) (set_up_of k) (books_of k) c.args.account q (prepare_of c.args.prepare.now)
           (record { number = n.0; room = c.if-is_full.ensures; timely-yet = omega (arith, c.time-time.ensures) }) c.in-Some-find.to None c.in-Some-find.ensures.value (pair_is c.args.account c.in-Some-find.to None c.in_default-new.ensures);
       ready = tt;
@@ -79,24 +80,32 @@ returns-then-not-can_hold_in g c =
     let n = told-some (has_number (books_of k)) ((books_of k).last + 1) c.in-Some.number c.in-Some.ensures in
     record {
       value = λ q.
-          by_parts _ _ q _ _ c.plain-then-not-can_hold_in.ensures
+          by_parts _ _ q _ _ c.into-then-not-can_hold_in.ensures
           ∙ no-credit-in (g.S.Stage.rule k.stages) (set_up_of k) (books_of k) c.args.account q (prepare_of c.args.prepare.now)
           (record { number = n.0; room = c.if-is_full.ensures; timely-yet = omega (arith, c.time-time.ensures) }) c.in-Some-find.to c.in-Some-new.accounts c.in-Some-find.ensures.value (pair_is c.args.account c.in-Some-find.to (Some c.in-Some-new.accounts) c.in-Some-new.ensures) c.if-not-can_hold_in.ensures;
       ready = tt;
     }
 
-pub returns-in-Reject : goal.returns-in-Reject
-returns-in-Reject g c =
+-- what a `?` hands on is the same
+handed_on : {X Y : Type 0} (r : Result X Y) (e : Y) → IsErrAnd r (λ x. x ≡ e) → r ≡ Err e
+handed_on (Ok x) e h = elim h [ ]
+handed_on (Err x) e h = ap Err h
+
+pub returns-in_err-passed : goal.returns-in_err-passed
+returns-in_err-passed g c =
     let k = c.args.self.now in
     let look = g.S.Stage.rule k.stages in
     let p = prepare_of c.args.prepare.now in
     let n = told-some (has_number (books_of k)) ((books_of k).last + 1) c.in-Some.number c.in-Some.ensures in
+    let r = c.in_err-passed.field-0.0 in
+    let e = handed_on c.from_residual.result r c.from_residual.ensures.1 in
     record {
       value = λ q.
-          looked look (set_up_of k) (books_of k) c.args.account q p
-          (record { number = n.0; room = c.if-is_full.ensures; timely-yet = omega (arith, c.time-time.ensures) }) c.in-Some-find.to c.in-Some-new.accounts (Reject c.in-Reject.rejected) c.in-Some-find.ensures.value (pair_is c.args.account c.in-Some-find.to (Some c.in-Some-new.accounts) c.in-Some-new.ensures) c.if-not-can_hold_in.ensures
-          (c.in-Reject.ensures ∙ offered-so look (set_up_of k) (books_of k) c.args.account q p c.in-Some-new.accounts c.in-Some.number c.time-time.result n.1 c.time-time.ensures);
-      ready = tt;
+          ap (decided (books_of k) c.args.account q p) e
+          ∙ looked look (set_up_of k) (books_of k) c.args.account q p
+          (record { number = n.0; room = c.if-is_full.ensures; timely-yet = omega (arith, c.time-time.ensures) }) c.in-Some-find.to c.in-Some-new.accounts (Err r) c.in-Some-find.ensures.value (pair_is c.args.account c.in-Some-find.to (Some c.in-Some-new.accounts) c.in-Some-new.ensures) c.if-not-can_hold_in.ensures
+          (c.in_err-passed.ensures ∙ offered-so look (set_up_of k) (books_of k) c.args.account q p c.in-Some-new.accounts c.in-Some.number c.time-time.result n.1 c.time-time.ensures);
+      ready = subst (Ready look (books_of k) c.args.account p) (sym e) tt;
     }
 
 pub returns-then-not-can_hold_out : goal.returns-then-not-can_hold_out
@@ -107,20 +116,20 @@ returns-then-not-can_hold_out g c =
     let n = told-some (has_number (books_of k)) ((books_of k).last + 1) c.in-Some.number c.in-Some.ensures in
     record {
       value = λ q.
-          by_parts _ _ q _ _ c.plain-then-not-can_hold_out.ensures
-          ∙ sym (ap (λ x. cond x (forwards (books_of k).time (next_row (books_of k) (reservation_for c.args.account q p c.in-Some-find.to c.in-Pass.passed)) (onward p c.in-Pass.passed.amount c.in-Pass.passed.expiry)) (plain_reject (books_of k).time c.args.account q code.InsufficientLiquidity)) (sym c.if-not-can_hold_out.ensures))
+          by_parts _ _ q _ _ c.into-then-not-can_hold_out.ensures
+          ∙ sym (ap (λ x. cond x (forwards (books_of k).time (next_row (books_of k) (reservation_for c.args.account q p c.in-Some-find.to c.in_ok-passed.passed)) (onward p c.in_ok-passed.passed.amount c.in_ok-passed.passed.expiry)) (plain_reject (books_of k).time c.args.account q code.InsufficientLiquidity)) (sym c.if-not-can_hold_out.ensures))
           ∙ looked look (set_up_of k) (books_of k) c.args.account q p
-          (record { number = n.0; room = c.if-is_full.ensures; timely-yet = omega (arith, c.time-time.ensures) }) c.in-Some-find.to c.in-Some-new.accounts (Pass c.in-Pass.passed) c.in-Some-find.ensures.value (pair_is c.args.account c.in-Some-find.to (Some c.in-Some-new.accounts) c.in-Some-new.ensures) c.if-not-can_hold_in.ensures
-          (c.in-Pass.ensures ∙ offered-so look (set_up_of k) (books_of k) c.args.account q p c.in-Some-new.accounts c.in-Some.number c.time-time.result n.1 c.time-time.ensures);
+          (record { number = n.0; room = c.if-is_full.ensures; timely-yet = omega (arith, c.time-time.ensures) }) c.in-Some-find.to c.in-Some-new.accounts (Ok c.in_ok-passed.passed) c.in-Some-find.ensures.value (pair_is c.args.account c.in-Some-find.to (Some c.in-Some-new.accounts) c.in-Some-new.ensures) c.if-not-can_hold_in.ensures
+          (c.in_ok-passed.ensures ∙ offered-so look (set_up_of k) (books_of k) c.args.account q p c.in-Some-new.accounts c.in-Some.number c.time-time.result n.1 c.time-time.ensures);
       ready = tt;
     }
 
-pub returns-else-not-can_hold_out : goal.returns-else-not-can_hold_out
-returns-else-not-can_hold_out g c =
+pub returns : goal.returns
+returns g c =
     let k = c.args.self.now in
     let look = g.S.Stage.rule k.stages in
     let p = prepare_of c.args.prepare.now in
-    let v = c.in-Pass.passed in
+    let v = c.in_ok-passed.passed in
     let to = c.in-Some-find.to in
     let x = c.in-Some-new.accounts in
     let both = c.in-Some-new.ensures in
@@ -130,10 +139,10 @@ returns-else-not-can_hold_out g c =
           ap (λ o. forwards (books_of k).time (next_row (books_of k) (reservation_for c.args.account q p o v)) (onward p v.amount v.expiry)) both.1
           ∙ sym (ap (λ y. cond y (forwards (books_of k).time (next_row (books_of k) (reservation_for c.args.account q p to v)) (onward p v.amount v.expiry)) (plain_reject (books_of k).time c.args.account q code.InsufficientLiquidity)) (sym c.if-not-can_hold_out.ensures))
           ∙ looked look (set_up_of k) (books_of k) c.args.account q p
-          (record { number = n.0; room = c.if-is_full.ensures; timely-yet = omega (arith, c.time-time.ensures) }) to x (Pass v) c.in-Some-find.ensures.value (pair_is c.args.account to (Some x) both) c.if-not-can_hold_in.ensures
-          (c.in-Pass.ensures ∙ offered-so look (set_up_of k) (books_of k) c.args.account q p x c.in-Some.number c.time-time.result n.1 c.time-time.ensures);
+          (record { number = n.0; room = c.if-is_full.ensures; timely-yet = omega (arith, c.time-time.ensures) }) to x (Ok v) c.in-Some-find.ensures.value (pair_is c.args.account to (Some x) both) c.if-not-can_hold_in.ensures
+          (c.in_ok-passed.ensures ∙ offered-so look (set_up_of k) (books_of k) c.args.account q p x c.in-Some.number c.time-time.result n.1 c.time-time.ensures);
       ready = (
-        sym c.in-Pass.ensures,
+        sym c.in_ok-passed.ensures,
         n.1,
         refl,
         λ q. can-reserve (books_of k) c.args.account q x.outgoing 0 p v n.0 c.if-is_full.ensures c.if-not-can_hold_in.ensures (c.if-not-can_hold_out.ensures ∙ ap (λ o. can_hold_out (books_of k).accounts o v.amount) (sym both.1)) (λ e. x.apart (both.0 ∙ e)),

@@ -3,7 +3,7 @@ use Rattle.wire.specs.declared.fault.Fault.{Fault}
 use Rattle.packet.specs.Values.{PrepareValue, prepare_of}
 use Rattle.stage.specs.declared.transfer.Transfer.{Transfer}
 use Rattle.stage.specs.declared.transfer.Rejected.{Rejected}
-use Rattle.stage.specs.declared.transfer.Verdict.{Verdict}
+use Rattle.stage.specs.declared.transfer.Passed.{Passed}
 use Rattle.ledger.specs.Books.{Books, advanced, admitted, next_row}
 use Rattle.protocol.specs.declared.ended.Ended.{Ended}
 use Rattle.protocol.specs.declared.ended.Rejected as turned
@@ -19,7 +19,7 @@ use Rattle.connector.proofs.Endings.{prepare-read}
 use Rattle.connector.proofs.connector.Connector.prepare.Goals as goal
 
 -- what is decided at the advanced time is what the call comes to
-decided-at : (look : Transfer → Verdict) (s : SetUp) (b d : Books) (a q t : ℕ) (p : PrepareValue) (r : Result Onward Rejected) → d ≡ advanced t b → decided d a q p r ≡ by_prepare look s d a q d.time (Ok p) → by_prepare look s b a q (time_at b t) (Ok p) ≡ decided (advanced t b) a q p r
+decided-at : (look : Transfer → Result Passed Rejected) (s : SetUp) (b d : Books) (a q t : ℕ) (p : PrepareValue) (r : Result Onward Rejected) → d ≡ advanced t b → decided d a q p r ≡ by_prepare look s d a q d.time (Ok p) → by_prepare look s b a q (time_at b t) (Ok p) ≡ decided (advanced t b) a q p r
 decided-at look s b d a q t p r e h = sym (subst (λ (x : Books). decided x a q p r ≡ by_prepare look s x a q x.time (Ok p)) e h)
 
 same-turned : (x : turned.Rejected) (e : Ended) (f : Option Fault) → x.ended ≡ e → x.fault ≡ f → x ≡ record { ended = e; fault = f }
@@ -62,10 +62,10 @@ returns-in-Err g c =
           turned_so g.S.Stage.held
           (prepare-by look (set_up_of k) (books_of k) _ c.args.account c.args.request c.args.time _ (Err c.in-Err.fault) (omega arith) c.if-not-has_account.ensures (omega arith) (prepare-read _ (Err c.in-Err.fault) c.in-Err.ensures.value))
           (record {
-            answer = ap rejected (same-turned _ _ _ (w.ended ∙ ap (λ (r : Rejected). ended_as c.args.account c.args.request (our_bytes (set_up_of k).own r.code r.first r.second)) c.plain-rejected.ensures) w.fault);
+            answer = ap rejected (same-turned _ _ _ (w.ended ∙ ap (λ (r : Rejected). ended_as c.args.account c.args.request (our_bytes (set_up_of k).own r.code r.first r.second)) c.into-rejected.ensures) w.fault);
             books = c.advance.ensures;
             stack = refl;
-            buffer_now = w.buffer ∙ ap (λ (r : Rejected). our_bytes (set_up_of k).own r.code r.first r.second ++ drop (length (our_bytes (set_up_of k).own r.code r.first r.second)) c.args.buffer.now) c.plain-rejected.ensures;
+            buffer_now = w.buffer ∙ ap (λ (r : Rejected). our_bytes (set_up_of k).own r.code r.first r.second ++ drop (length (our_bytes (set_up_of k).own r.code r.first r.second)) c.args.buffer.now) c.into-rejected.ensures;
           });
       kept = record { routes = refl; own = refl; hash = refl };
       unchanged = tt;

@@ -8,8 +8,3 @@ invariant_of-self-clause-once c =
     let s = c.args.self.now in
     let room : s.count < length s.places = omega (arith, length-take-le s.count s.places (omega arith)) in
     rw (take_more_set s.places s.count c.args.number room) (once-push (take s.count s.places) c.args.number s.once c.requires.new)
-
-pub returns : goal.returns
-returns c =
-    let s = c.args.self.now in
-    take_more_set s.places s.count c.args.number (omega (arith, length-take-le s.count s.places (omega arith)))

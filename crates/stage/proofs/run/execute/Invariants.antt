@@ -1,6 +1,6 @@
 use Rattle.std.proofs.Common.{◌≡◌, ◌≤◌, length, take, vec_items, vec_len, vec_capacity}
 use Rattle.stage.specs.Runs.{Run}
-use Rattle.stage.proofs.run.execute_all.Given as goal
+use Rattle.stage.proofs.run.execute.Given as goal
 
 abbrev pub invariant-loop-change : goal.invariant-loop-change
 invariant-loop-change g l =
