@@ -11,18 +11,19 @@ ghost use Rattle.messages.specs.Own.{own_bytes};
 
 use crate::own::OwnAddress;
 use packet::value::{Prepare, Reject};
-use packet_writer::writing::{write_prepare, write_reject};
+use packet_writer::writing::write_packet;
 use stage::transfer::{Passed, Rejected};
 use wire::code::RejectCode;
-use wire::writing::put;
+use wire::writer::Writer;
 
 // The two numbers of a reject, 8 bytes each, the high one first.
 fn two_numbers(first: u64, second: u64) -> [u8; 16]
     ensures { result ≡ amount_bytes first ++ amount_bytes second }
 {
     let mut bytes = [0; 16];
-    let at = put(&mut bytes, 0, &first.to_be_bytes());
-    put(&mut bytes, at, &second.to_be_bytes());
+    let mut writer = Writer::new(&mut bytes);
+    writer.put(&first.to_be_bytes());
+    writer.put(&second.to_be_bytes());
     bytes
 }
 
@@ -49,8 +50,8 @@ pub fn write_our_reject(own: &OwnAddress, rejected: Rejected, buffer: &mut [u8])
         message: &[],
         data: &numbers[..data_size(rejected.code)],
     };
-    let Ok(n) = write_reject(buffer, &packet) else {
-        return 0;
+    let Ok(n) = write_packet(buffer, &packet) else {
+        unreachable!();
     };
     n
 }
@@ -68,8 +69,8 @@ pub fn write_onward(prepare: &Prepare<'_>, passed: Passed, buffer: &mut [u8]) ->
         expiry: passed.expiry,
         ..*prepare
     };
-    let Ok(n) = write_prepare(buffer, &packet) else {
-        return 0;
+    let Ok(n) = write_packet(buffer, &packet) else {
+        unreachable!();
     };
     n
 }
@@ -79,5 +80,7 @@ pub fn pass_on(bytes: &[u8], buffer: &mut [u8]) -> usize
     requires { length bytes.now ≤ length buffer.old }
     ensures { Written buffer.old bytes.now buffer.new result }
 {
-    put(buffer, 0, bytes)
+    let mut writer = Writer::new(buffer);
+    writer.put(bytes);
+    writer.place()
 }

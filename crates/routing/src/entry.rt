@@ -1,16 +1,13 @@
 // One route of a table, which owns its bytes.
-ghost use Rattle.std.specs.Prelude.{◌≤◌};
+use wire::short::ShortBytes;
 
 pub mod calls;
 
 // The most bytes of a prefix.
 pub(crate) const LONGEST: usize = 64;
 
-// The prefix is the first `length` bytes.
 #[derive(Clone, Copy)]
 pub struct Entry {
-    prefix: [u8; LONGEST],
-    length: usize,
+    prefix: ShortBytes<LONGEST>,
     account: u8,
-    ghost few: { length ≤ 64 },
 }

@@ -1,4 +1,5 @@
 pub mod Codes
 pub mod Reading
+pub mod Short
 pub mod Words
 pub mod Writing

@@ -6,6 +6,7 @@ pub mod code;
 pub mod compare;
 pub mod fault;
 pub mod reader;
+pub mod short;
 mod words;
 pub mod writer;
 pub mod writing;

@@ -3,20 +3,20 @@ ghost use Rattle.std.specs.Prelude.{◌≡◌, ◌≤◌, length};
 ghost use Rattle.routing.specs.Entries.{given_route, entry_route, best_route};
 ghost use Rattle.routing.specs.Routes.{begins, longer_than};
 
-use super::{Entry, LONGEST};
+use super::Entry;
 use crate::route::Route;
-use wire::writing::put;
+use wire::short::ShortBytes;
 
 impl Entry {
     pub(crate) fn new(route: Route<'_>) -> Entry
         requires { length route.prefix.now ≤ 64 }
         ensures { entry_route result ≡ given_route route.entry }
     {
-        let mut prefix = [0; LONGEST];
-        let length = put(&mut prefix, 0, route.prefix);
+        let Some(prefix) = ShortBytes::new(route.prefix) else {
+            unreachable!();
+        };
         Entry {
             prefix,
-            length,
             account: route.account,
         }
     }
@@ -24,7 +24,7 @@ impl Entry {
     pub(crate) fn prefix(&self) -> &[u8]
         ensures { result.now ≡ (entry_route self.now).prefix }
     {
-        &self.prefix[0..self.length]
+        self.prefix.as_slice()
     }
 
     pub(crate) fn account(&self) -> u8
