@@ -1,6 +1,5 @@
 -- What is decided of a Prepare, by the tests that the code makes.
 use Rattle.std.proofs.Common.{◌≡◌, ℕ, ◌+◌, ◌<◌, ◌≤◌, true, false, cond, not, leb, List, ◌++◌, length, take, is_some, Some, Ok, Option, sym, ap, ◌∙◌, arith, Result}
-use Rattle.std.proofs.lemmas.List.{take_all, take_at}
 use Rattle.std.specs.Bool.{then_some}
 use Rattle.std.proofs.lemmas.Bool.{le-leb, lt-leb, and_from, ne_eqb}
 use Rattle.wire.specs.declared.code.RejectCode.TheVariants as code
@@ -97,8 +96,3 @@ reserved-as b a q to o p v c r d e f can told is =
 
 pub same-forwarded : (n a l d m o k e : ℕ) → n ≡ m → a ≡ o → l ≡ k → d ≡ e → forwarded n a l d ≡ forwarded m o k e
 same-forwarded n a l d m o k e f g h i = cc
-
--- a copy of as many bytes as there are places
-pub copied : (bytes after rest : List ℕ) (n : ℕ) → after ≡ bytes ++ rest → length bytes ≡ n → length after ≡ n → after ≡ bytes
-copied bytes after rest n e l m =
-    sym (take_all n after (omega arith)) ∙ ap (take n) e ∙ take_at bytes rest n l

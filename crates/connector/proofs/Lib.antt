@@ -1,3 +1,4 @@
+mod Handed
 pub mod Outcomes
 pub mod Due
 pub mod Endings

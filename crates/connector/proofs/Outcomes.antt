@@ -31,6 +31,9 @@ module _ {St : Type 0} (held : St → List ℕ) where
       subst (λ q. TurnsOut held s b p q buffer (refused x) b p buffer) (sym e)
       (record { answer = refl; books = refl; stack = refl; buffer_now = refl })
 
+  pub refused_as : {s : SetUp} {b : Books} {p : St} {o : Outcome} {x : Refusal} {buffer : List ℕ} {reply : Reply} → reply ≡ refused x → o ≡ refuses x → TurnsOut held s b p o buffer reply b p buffer
+  refused_as {s} {b} {p} {o} {x} {buffer} {reply} told e = subst (λ r. TurnsOut held s b p o buffer r b p buffer) (sym told) (refused-so s b p o x buffer e)
+
 -- SENT
 pub sent-none : (b : Books) (n : ℕ) → None ≡ lookup n b.rows → sent_outcome b n ≡ refuses refusal.NotPending
 unfolding sent_outcome

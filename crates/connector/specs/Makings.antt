@@ -3,25 +3,44 @@ use Rattle.std.specs.Prelude.{◌≡◌, ℕ, Bool, true, false, ◌&&◌, List,
 use Rattle.accounts.specs.SetUps.{set_up_fits}
 use Rattle.stage.specs.Numbers.{is_empty}
 use Rattle.ledger.specs.Books.{new_books}
-use Rattle.messages.specs.Own.{own_fits}
+use Rattle.messages.specs.Own.{own_fits, own_bytes}
 use Rattle.routing.specs.declared.refusal.NotMade.TheVariants.{Refused, NoMemory}
 use Rattle.routing.specs.declared.refusal.NotMade.{NotMade}
 use Rattle.routing.specs.Entries.{given_list}
 use Rattle.routing.specs.Routes.{routes_fit}
+use Rattle.ledger.specs.declared.ledger.Ledger.{Ledger}
+use Rattle.ledger.specs.Views.{view}
+use Rattle.routing.specs.declared.table.Routes.{Routes}
+use Rattle.routing.specs.Tables.{listed}
+use Rattle.messages.specs.declared.own.OwnAddress.{OwnAddress}
 use Rattle.connector.specs.declared.connector.Connector.{Connector}
 use Rattle.connector.specs.declared.set_up.SetUp.{SetUp}
 use Rattle.connector.specs.declared.set_up.Unmade.{Unmade}
 use Rattle.connector.specs.Views.{books_of, set_up_of}
 
 -- accounts, routes and address in bounds, and a stack that holds nothing open
+abbrev pub parts_fit : SetUp → Bool → Bool
+parts_fit s idle =
+    set_up_fits s.accounts.now && own_fits s.address.now && idle && routes_fit (length s.accounts.now) (given_list s.routes.now)
+
 abbrev pub all_fits : SetUp → List ℕ → Bool
-all_fits s open-now =
-    set_up_fits s.accounts.now && own_fits s.address.now && is_empty open-now && routes_fit (length s.accounts.now) (given_list s.routes.now)
+all_fits s open-now = parts_fit s (is_empty open-now)
 
 -- refused where something does not fit; else there was no memory
 abbrev pub because : NotMade → Bool
 because Refused = false
 because NoMemory = true
+
+-- the ledger, the routes and the address of a set-up that fits
+pub record Parts (s : SetUp) (idle : Bool) (l : Ledger) (r : Routes) (o : OwnAddress) : Type 0 where
+  pub fits : parts_fit s idle ≡ true
+  pub books : view l ≡ new_books s.accounts.now
+  pub own : own_bytes o ≡ s.address.now
+  pub routes : listed r ≡ given_list s.routes.now
+
+abbrev pub PartsMade : SetUp → Bool → Result (Ledger × Routes × OwnAddress) NotMade → Type 0
+PartsMade s idle (Ok p) = Parts s idle p.0 p.1 p.2
+PartsMade s idle (Err why) = parts_fit s idle ≡ because why
 
 module _ {S H : Type 0} (held : S → List ℕ) where
   -- a new connector: its time and its last number are 0, its accounts new, and nothing is pending

@@ -1,6 +1,7 @@
 // Why a call is refused. A refused call changes nothing and writes nothing.
 ghost use Rattle.std.specs.Prelude.{◌≡◌};
 ghost use Rattle.protocol.specs.Refusals.{refusal_number};
+ghost use Rattle.protocol.specs.declared.refusal.Refusal.TheVariants.{UnreadableAnswer};
 
 use wire::fault::Fault;
 
@@ -38,5 +39,14 @@ impl Refusal {
             Refusal::LimitWouldBreak => 7,
             Refusal::SetUp => 8,
         }
+    }
+}
+
+impl From<Fault> for Refusal {
+    // Bytes with a fault are no answer.
+    ghost from_gives = { λ fault refusal. refusal ≡ UnreadableAnswer fault };
+
+    fn from(fault: Fault) -> Refusal {
+        Refusal::UnreadableAnswer(fault)
     }
 }

@@ -67,16 +67,11 @@ impl<S: Stage, H: ConditionHash> Connector<S, H> {
         if time > LAST_INSTANT {
             return Err(Refusal::TimeOutOfRange);
         }
-        let Some(row) = self.ledger.lookup(number) else {
-            return Err(Refusal::NotPending);
-        };
+        let row = self.ledger.lookup(number).ok_or(Refusal::NotPending)?;
         if !is_theirs(&row, account) {
             return Err(Refusal::NotPending);
         }
-        let answer = match read_answer(bytes) {
-            Ok(answer) => answer,
-            Err(fault) => return Err(Refusal::UnreadableAnswer(fault)),
-        };
+        let answer = read_answer(bytes)?;
         self.ledger.advance(time);
         let ending = self.ending(&row, answer);
         Ok(self.finish(&row, ending, bytes, buffer))

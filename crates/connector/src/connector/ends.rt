@@ -57,9 +57,7 @@ impl<S: Stage, H: ConditionHash> Connector<S, H> {
         if buffer.len() < LONGEST_PACKET {
             return Err(Refusal::ShortBuffer);
         }
-        let Some(row) = self.ledger.lookup(number) else {
-            return Err(Refusal::NotPending);
-        };
+        let row = self.ledger.lookup(number).ok_or(Refusal::NotPending)?;
         if row.sent {
             return Err(Refusal::NotPending);
         }

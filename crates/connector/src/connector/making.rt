@@ -1,5 +1,5 @@
 // How a connector is made.
-ghost use Rattle.connector.specs.Makings.{Made};
+ghost use Rattle.connector.specs.Makings.{Made, PartsMade};
 
 use super::Connector;
 use crate::set_up::{SetUp, Unmade};
@@ -21,20 +21,9 @@ impl<S: Stage, H: ConditionHash> Connector<S, H> {
     ) -> Result<Connector<S, H>, Unmade<S, H>>
         ensures { Made S.held set_up.entry stages hash result }
     {
-        let why = NotMade::Refused;
-        let Some(ledger) = Ledger::new(set_up.accounts) else {
-            return Err(Unmade { why, stages, hash });
-        };
-        let Some(own) = OwnAddress::new(set_up.address) else {
-            return Err(Unmade { why, stages, hash });
-        };
-        if !stages.idle() {
-            return Err(Unmade { why, stages, hash });
-        }
-        let count = set_up.accounts.len() as u8;
-        match Routes::new(heap, count, set_up.routes) {
+        match parts(heap, set_up, stages.idle()) {
             Err(why) => Err(Unmade { why, stages, hash }),
-            Ok(routes) => Ok(Connector {
+            Ok((ledger, routes, own)) => Ok(Connector {
                 ledger,
                 routes,
                 own,
@@ -43,4 +32,21 @@ impl<S: Stage, H: ConditionHash> Connector<S, H> {
             }),
         }
     }
+}
+
+// What a connector has beside its stack, which is to be idle, and its hash.
+fn parts(
+    heap: Global,
+    set_up: SetUp<'_>,
+    idle: bool,
+) -> Result<(Ledger, Routes, OwnAddress), NotMade>
+    ensures { PartsMade set_up.entry idle result }
+{
+    let ledger = Ledger::new(set_up.accounts).ok_or(NotMade::Refused)?;
+    let own = OwnAddress::new(set_up.address).ok_or(NotMade::Refused)?;
+    if !idle {
+        return Err(NotMade::Refused);
+    }
+    let routes = Routes::new(heap, set_up.accounts.len() as u8, set_up.routes)?;
+    Ok((ledger, routes, own))
 }

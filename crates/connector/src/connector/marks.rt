@@ -18,9 +18,7 @@ impl<S: Stage, H: ConditionHash> Connector<S, H> {
         ensures unchanged { SameUnless (is_ok result) self.old self.new }
     {
         let number = duty.spend();
-        let Some(row) = self.ledger.lookup(number) else {
-            return Err(Refusal::NotPending);
-        };
+        let row = self.ledger.lookup(number).ok_or(Refusal::NotPending)?;
         if row.sent {
             return Err(Refusal::NotPending);
         }

@@ -29,7 +29,6 @@ use stage::interface::Stage;
 use stage::transfer::{Rejected, Transfer};
 use wire::code::RejectCode;
 use wire::fault::Fault;
-use wire::writing::put;
 
 impl<S: Stage, H: ConditionHash> Connector<S, H> {
     // A peer sends a Prepare.
@@ -83,9 +82,7 @@ impl<S: Stage, H: ConditionHash> Connector<S, H> {
         ensures value { (q : ℕ) → decided (books_of self.now) account q (prepare_of prepare.now) result ≡ by_prepare (S.rule self.now.stages) (set_up_of self.now) (books_of self.now) account q (books_of self.now).time (Ok (prepare_of prepare.now)) }
         ensures ready { Ready (S.rule self.now.stages) (books_of self.now) account (prepare_of prepare.now) result }
     {
-        let Some(number) = self.ledger.next_number() else {
-            return Err(RejectCode::InternalError.into());
-        };
+        let number = self.ledger.next_number().ok_or(RejectCode::InternalError)?;
         if self.ledger.is_full() {
             return Err(RejectCode::ConnectorBusy.into());
         }
@@ -93,12 +90,8 @@ impl<S: Stage, H: ConditionHash> Connector<S, H> {
         if prepare.expiry <= time {
             return Err(RejectCode::TransferTimedOut.into());
         }
-        let Some(to) = self.routes.find(prepare.destination) else {
-            return Err(RejectCode::Unreachable.into());
-        };
-        let Some(accounts) = AccountPair::new(account, to) else {
-            return Err(RejectCode::Unreachable.into());
-        };
+        let to = self.routes.find(prepare.destination).ok_or(RejectCode::Unreachable)?;
+        let accounts = AccountPair::new(account, to).ok_or(RejectCode::Unreachable)?;
         if !self.ledger.can_hold_in(account, prepare.amount) {
             return Err(RejectCode::InsufficientLiquidity.into());
         }
@@ -136,7 +129,7 @@ impl<S: Stage, H: ConditionHash> Connector<S, H> {
     {
         let to = onward.transfer.accounts.outgoing();
         let mut condition = [0; 32];
-        put(&mut condition, 0, prepare.condition);
+        condition.copy_from_slice(prepare.condition);
         self.ledger.reserve(Reservation {
             hold: Hold {
                 sender: account,

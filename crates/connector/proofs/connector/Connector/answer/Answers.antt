@@ -6,103 +6,85 @@ use Rattle.protocol.specs.Calls.{time_at, ending_by}
 use Rattle.protocol.specs.Outcomes.{ends, ended, is_paid}
 use Rattle.connector.specs.Endings.{ending_of, answered_by}
 use Rattle.ledger.proofs.RowLaws.{lookup-number}
-use Rattle.connector.specs.Views.{books_of, set_up_of}
-use Rattle.connector.proofs.Outcomes.{turned_so, refused-so, answer-short, answer-nobody, answer-never, answer-by, not-theirs, theirs}
+use Rattle.connector.specs.Views.{books_of}
+use Rattle.protocol.specs.declared.refusal.Refusal.{Refusal}
+use Rattle.protocol.specs.declared.refusal.Refusal.TheVariants.{NotPending, UnreadableAnswer}
+use Rattle.connector.specs.Replies.{end_reply}
+use Rattle.connector.proofs.Handed.{handed_on, missing-handed}
+use Rattle.connector.proofs.Outcomes.{turned_so, refused_as, answer-short, answer-nobody, answer-never, answer-by, not-theirs, theirs}
 use Rattle.connector.proofs.Endings.{answer-read, packet-short}
 use Rattle.connector.proofs.connector.Connector.answer.Goals as goal
 
-pub returns-then-buffer-lt-LONGEST_PACKET : goal.returns-then-buffer-lt-LONGEST_PACKET
-returns-then-buffer-lt-LONGEST_PACKET g c =
-    let k = c.args.self.now in
-    record {
-      does = refused-so g.S.Stage.held (set_up_of k) (books_of k) k.stages _ _ _ (answer-short g.H.ConditionHash.digest_of (books_of k) _ c.args.account c.args.number c.args.time _ (omega arith));
-      kept = record { routes = refl; own = refl; hash = refl };
-      unchanged = refl;
-    }
-
-pub returns-then-not-has_account : goal.returns-then-not-has_account
-returns-then-not-has_account g c =
-    let k = c.args.self.now in
-    record {
-      does = refused-so g.S.Stage.held (set_up_of k) (books_of k) k.stages _ _ _ (answer-nobody g.H.ConditionHash.digest_of (books_of k) _ c.args.account c.args.number c.args.time _ (omega arith) c.if-not-has_account.ensures);
-      kept = record { routes = refl; own = refl; hash = refl };
-      unchanged = refl;
-    }
-
-pub returns-then-time-gt-LAST_INSTANT : goal.returns-then-time-gt-LAST_INSTANT
-returns-then-time-gt-LAST_INSTANT g c =
-    let k = c.args.self.now in
-    record {
-      does = refused-so g.S.Stage.held (set_up_of k) (books_of k) k.stages _ _ _ (answer-never g.H.ConditionHash.digest_of (books_of k) _ c.args.account c.args.number c.args.time _ (omega arith) c.if-not-has_account.ensures (omega arith));
-      kept = record { routes = refl; own = refl; hash = refl };
-      unchanged = refl;
-    }
-
-pub returns-in_default : goal.returns-in_default
-returns-in_default g c =
-    let k = c.args.self.now in
-    record {
-      does = refused-so g.S.Stage.held (set_up_of k) (books_of k) k.stages _ _ _ (answer-by g.H.ConditionHash.digest_of (books_of k) _ c.args.account c.args.number c.args.time _ _ (omega arith) c.if-not-has_account.ensures (omega arith) c.in_default.ensures);
-      kept = record { routes = refl; own = refl; hash = refl };
-      unchanged = refl;
-    }
-
-pub returns-then-not-is_theirs : goal.returns-then-not-is_theirs
-returns-then-not-is_theirs g c =
-    let k = c.args.self.now in
+pub returns-then-buffer-lt-LONGEST_PACKET-clause-does : goal.returns-then-buffer-lt-LONGEST_PACKET-clause-does
+returns-then-buffer-lt-LONGEST_PACKET-clause-does g c =
     let d = g.H.ConditionHash.digest_of in
-    record {
-      does = refused-so g.S.Stage.held (set_up_of k) (books_of k) k.stages _ _ _
-          (answer-by d (books_of k) _ c.args.account c.args.number c.args.time _ _ (omega arith) c.if-not-has_account.ensures (omega arith) c.in-Some.ensures
-          ∙ not-theirs d (books_of k) 0 c.args.account 0 c.args.time _ c.in-Some.row (sym c.if-not-is_theirs.ensures));
-      kept = record { routes = refl; own = refl; hash = refl };
-      unchanged = refl;
-    }
+    refused_as g.S.Stage.held refl (answer-short d (books_of c.args.self.now) _ c.args.account c.args.number c.args.time _ (omega arith))
 
-pub returns-in-Err : goal.returns-in-Err
-returns-in-Err g c =
-    let k = c.args.self.now in
+pub returns-then-not-has_account-clause-does : goal.returns-then-not-has_account-clause-does
+returns-then-not-has_account-clause-does g c =
     let d = g.H.ConditionHash.digest_of in
-    record {
-      does = refused-so g.S.Stage.held (set_up_of k) (books_of k) k.stages _ _ _
-          (answer-by d (books_of k) _ c.args.account c.args.number c.args.time _ _ (omega arith) c.if-not-has_account.ensures (omega arith) c.in-Some.ensures
-          ∙ theirs d (books_of k) 0 c.args.account 0 c.args.time _ c.in-Some.row _ (sym c.if-not-is_theirs.ensures) (answer-read _ (Err c.in-Err.fault) c.in-Err.ensures.value));
-      kept = record { routes = refl; own = refl; hash = refl };
-      unchanged = refl;
-    }
+    refused_as g.S.Stage.held refl (answer-nobody d (books_of c.args.self.now) _ c.args.account c.args.number c.args.time _ (omega arith) c.if-not-has_account.ensures)
+
+pub returns-then-time-gt-LAST_INSTANT-clause-does : goal.returns-then-time-gt-LAST_INSTANT-clause-does
+returns-then-time-gt-LAST_INSTANT-clause-does g c =
+    let d = g.H.ConditionHash.digest_of in
+    refused_as g.S.Stage.held refl (answer-never d (books_of c.args.self.now) _ c.args.account c.args.number c.args.time _ (omega arith) c.if-not-has_account.ensures (omega arith))
+
+pub returns-in_err-row-clause-does : goal.returns-in_err-row-clause-does
+returns-in_err-row-clause-does g c =
+    let d = g.H.ConditionHash.digest_of in
+    let m = missing-handed (λ (e : Refusal). e) c.lookup.result NotPending _ c.from_residual.result (sym c.ok_or.ensures.value ∙ c.in_err-row.was) c.from_residual.ensures.1 in
+    refused_as g.S.Stage.held (ap end_reply m.1)
+    (answer-by d (books_of c.args.self.now) _ c.args.account c.args.number c.args.time _ _ (omega arith) c.if-not-has_account.ensures (omega arith) (m.0 ∙ c.lookup.ensures))
+
+pub returns-then-not-is_theirs-clause-does : goal.returns-then-not-is_theirs-clause-does
+returns-then-not-is_theirs-clause-does g c =
+    let b = books_of c.args.self.now in
+    let d = g.H.ConditionHash.digest_of in
+    let found = sym c.in_ok-row.ensures.ok_part ∙ c.lookup.ensures in
+    refused_as g.S.Stage.held refl
+    (answer-by d b _ c.args.account c.args.number c.args.time _ _ (omega arith) c.if-not-has_account.ensures (omega arith) found
+    ∙ not-theirs d b 0 c.args.account 0 c.args.time _ c.in_ok-row.row (sym c.if-not-is_theirs.ensures))
+
+pub returns-in_err-answer-clause-does : goal.returns-in_err-answer-clause-does
+returns-in_err-answer-clause-does g c =
+    let b = books_of c.args.self.now in
+    let d = g.H.ConditionHash.digest_of in
+    let found = sym c.in_ok-row.ensures.ok_part ∙ c.lookup.ensures in
+    let fault = c.in_err-answer.field-0.0 in
+    refused_as g.S.Stage.held (ap end_reply (handed_on _ (UnreadableAnswer fault) c.from_residual-in_err-answer.ensures.1))
+    (answer-by d b _ c.args.account c.args.number c.args.time _ _ (omega arith) c.if-not-has_account.ensures (omega arith) found
+    ∙ theirs d b 0 c.args.account 0 c.args.time _ c.in_ok-row.row _ (sym c.if-not-is_theirs.ensures) (answer-read _ (Err fault) c.in_err-answer.ensures.value))
 
 pub finish-requires : goal.finish-requires
 finish-requires g c =
-    let k = c.args.self.now in
-    let r = c.in-Some.row in
+    let b = books_of c.args.self.now in
+    let r = c.in_ok-row.row in
+    let found = sym c.in_ok-row.ensures.ok_part ∙ c.lookup.ensures in
     record {
-      found = ap (λ (b : Books). lookup r.number b.rows) c.advance.ensures ∙ ap (λ m. lookup m (books_of k).rows) (lookup-number c.args.number (books_of k).rows r (sym c.in-Some.ensures)) ∙ sym c.in-Some.ensures;
+      found = ap (λ (b : Books). lookup r.number b.rows) c.advance.ensures ∙ ap (λ m. lookup m b.rows) (lookup-number c.args.number b.rows r (sym found)) ∙ sym found;
       room = omega arith;
-      short = omega (arith, ap length c.in-Ok.ensures.encoding, packet-short (answer_of c.in-Ok.answer) c.in-Ok.ensures.fits);
+      short = omega (arith, ap length c.in_ok-answer.ensures.encoding, packet-short (answer_of c.in_ok-answer.answer) c.in_ok-answer.ensures.fits);
     }
 
-pub returns : goal.returns
-returns g c =
-    let k = c.args.self.now in
+pub returns-clause-does : goal.returns-clause-does
+returns-clause-does g c =
+    let b = books_of c.args.self.now in
     let d = g.H.ConditionHash.digest_of in
-    let r = c.in-Some.row in
-    let x = answered_by c.in-Ok.answer in
+    let r = c.in_ok-row.row in
+    let found = sym c.in_ok-row.ensures.ok_part ∙ c.lookup.ensures in
+    let x = answered_by c.in_ok-answer.answer in
     let w = c.args.bytes.now in
     let e = c.finish.ensures in
-    let same : ending_of c.args.bytes.now c.ending-ending.result ≡ ending_by g.H.ConditionHash.digest_of (time_at (books_of c.args.self.now) c.args.time) c.args.bytes.now c.in-Some.row (answered_by c.in-Ok.answer) =
+    let same : ending_of c.args.bytes.now c.ending-ending.result ≡ ending_by g.H.ConditionHash.digest_of (time_at (books_of c.args.self.now) c.args.time) c.args.bytes.now c.in_ok-row.row (answered_by c.in_ok-answer.answer) =
     c.ending-ending.ensures w ∙ ap (λ (b : Books). ending_by d b.time w r x) c.advance.ensures in
-    record {
-      does =
-          turned_so g.S.Stage.held
-          (answer-by d (books_of k) _ c.args.account c.args.number c.args.time _ _ (omega arith) c.if-not-has_account.ensures (omega arith) c.in-Some.ensures
-          ∙ theirs d (books_of k) 0 c.args.account 0 c.args.time w r _ (sym c.if-not-is_theirs.ensures) (answer-read w (Ok c.in-Ok.answer) c.in-Ok.ensures.value)
-          ∙ ap (ends (time_at (books_of k) c.args.time) r) (sym same))
-          (record {
-            answer = ap ended e.value;
-            books = e.books ∙ ap (closed (is_paid (ending_of w c.ending-ending.result)) r) c.advance.ensures;
-            stack = (e.numbers, e.closed);
-            buffer_now = e.buffer;
-          });
-      kept = record { routes = e.kept.routes; own = e.kept.own; hash = e.kept.hash };
-      unchanged = tt;
-    }
+    turned_so g.S.Stage.held
+    (answer-by d b _ c.args.account c.args.number c.args.time _ _ (omega arith) c.if-not-has_account.ensures (omega arith) found
+    ∙ theirs d b 0 c.args.account 0 c.args.time w r _ (sym c.if-not-is_theirs.ensures) (answer-read w (Ok c.in_ok-answer.answer) c.in_ok-answer.ensures.value)
+    ∙ ap (ends (time_at b c.args.time) r) (sym same))
+    (record {
+      answer = ap ended e.value;
+      books = e.books ∙ ap (closed (is_paid (ending_of w c.ending-ending.result)) r) c.advance.ensures;
+      stack = (e.numbers, e.closed);
+      buffer_now = e.buffer;
+    })

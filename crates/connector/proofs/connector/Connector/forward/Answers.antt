@@ -3,7 +3,7 @@ use Rattle.packet.specs.Values.{prepare_of}
 use Rattle.stage.specs.Verdicts.{open_after}
 use Rattle.connector.specs.Decisions.{goes_to}
 use Rattle.connector.specs.Views.{books_of}
-use Rattle.connector.proofs.Deciding.{reserved-as, same-forwarded, copied}
+use Rattle.connector.proofs.Deciding.{reserved-as, same-forwarded}
 use Rattle.connector.proofs.connector.Connector.forward.Goals as goal
 
 pub returns : goal.returns
@@ -15,9 +15,9 @@ returns g c =
     record {
       value = same-forwarded _ _ _ _ _ _ _ _ ready.1 c.outgoing-to.ensures.value c.write_onward.ensures.end (c.new.ensures ∙ ready.1);
       buffer = c.write_onward.ensures.is;
-      books = reserved-as (books_of k) c.args.account c.args.request c.outgoing-to.result (goes_to o) (prepare_of c.args.prepare.now) o.passed c.put.new.out c.reserve.result _
+      books = reserved-as (books_of k) c.args.account c.args.request c.outgoing-to.result (goes_to o) (prepare_of c.args.prepare.now) o.passed _ c.reserve.result _
           c.outgoing-to.ensures.value
-          (copied c.args.prepare.now.condition.now c.put.new.out _ 32 c.put.ensures.wrote.is c.requires.fits.condition c.put.auto.out)
+          c.copy_from_slice.ensures.after
           (ready.3 c.args.request)
           c.reserve.ensures.value
           c.reserve.ensures.books;

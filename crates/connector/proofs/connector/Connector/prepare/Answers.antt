@@ -14,7 +14,7 @@ use Rattle.protocol.specs.Turns.{ended_as}
 use Rattle.connector.specs.declared.prepared.Onward.{Onward}
 use Rattle.connector.specs.Decisions.{decided, goes_to, going}
 use Rattle.connector.specs.Views.{books_of, set_up_of}
-use Rattle.connector.proofs.Outcomes.{turned_so, refused-so, prepare-short, prepare-nobody, prepare-never, prepare-by}
+use Rattle.connector.proofs.Outcomes.{turned_so, refused_as, prepare-short, prepare-nobody, prepare-never, prepare-by}
 use Rattle.connector.proofs.Endings.{prepare-read}
 use Rattle.connector.proofs.connector.Connector.prepare.Goals as goal
 
@@ -25,82 +25,58 @@ decided-at look s b d a q t p r e h = sym (subst (λ (x : Books). decided x a q 
 same-turned : (x : turned.Rejected) (e : Ended) (f : Option Fault) → x.ended ≡ e → x.fault ≡ f → x ≡ record { ended = e; fault = f }
 same-turned x e f g h = λ i. record { ended = g i; fault = h i }
 
-pub returns-then-buffer-lt-LONGEST_PACKET : goal.returns-then-buffer-lt-LONGEST_PACKET
-returns-then-buffer-lt-LONGEST_PACKET g c =
+pub returns-then-buffer-lt-LONGEST_PACKET-clause-does : goal.returns-then-buffer-lt-LONGEST_PACKET-clause-does
+returns-then-buffer-lt-LONGEST_PACKET-clause-does g c =
     let k = c.args.self.now in
-    record {
-      does = refused-so g.S.Stage.held (set_up_of k) (books_of k) k.stages _ _ _ (prepare-short (g.S.Stage.rule k.stages) (set_up_of k) (books_of k) _ c.args.account c.args.request c.args.time _ (omega arith));
-      kept = record { routes = refl; own = refl; hash = refl };
-      unchanged = refl;
-    }
+    refused_as g.S.Stage.held refl (prepare-short (g.S.Stage.rule k.stages) (set_up_of k) (books_of k) _ c.args.account c.args.request c.args.time _ (omega arith))
 
-pub returns-then-not-has_account : goal.returns-then-not-has_account
-returns-then-not-has_account g c =
+pub returns-then-not-has_account-clause-does : goal.returns-then-not-has_account-clause-does
+returns-then-not-has_account-clause-does g c =
     let k = c.args.self.now in
-    record {
-      does = refused-so g.S.Stage.held (set_up_of k) (books_of k) k.stages _ _ _ (prepare-nobody (g.S.Stage.rule k.stages) (set_up_of k) (books_of k) _ c.args.account c.args.request c.args.time _ (omega arith) c.if-not-has_account.ensures);
-      kept = record { routes = refl; own = refl; hash = refl };
-      unchanged = refl;
-    }
+    refused_as g.S.Stage.held refl (prepare-nobody (g.S.Stage.rule k.stages) (set_up_of k) (books_of k) _ c.args.account c.args.request c.args.time _ (omega arith) c.if-not-has_account.ensures)
 
-pub returns-then-time-gt-LAST_INSTANT : goal.returns-then-time-gt-LAST_INSTANT
-returns-then-time-gt-LAST_INSTANT g c =
+pub returns-then-time-gt-LAST_INSTANT-clause-does : goal.returns-then-time-gt-LAST_INSTANT-clause-does
+returns-then-time-gt-LAST_INSTANT-clause-does g c =
     let k = c.args.self.now in
-    record {
-      does = refused-so g.S.Stage.held (set_up_of k) (books_of k) k.stages _ _ _ (prepare-never (g.S.Stage.rule k.stages) (set_up_of k) (books_of k) _ c.args.account c.args.request c.args.time _ (omega arith) c.if-not-has_account.ensures (omega arith));
-      kept = record { routes = refl; own = refl; hash = refl };
-      unchanged = refl;
-    }
+    refused_as g.S.Stage.held refl (prepare-never (g.S.Stage.rule k.stages) (set_up_of k) (books_of k) _ c.args.account c.args.request c.args.time _ (omega arith) c.if-not-has_account.ensures (omega arith))
 
-pub returns-in-Err : goal.returns-in-Err
-returns-in-Err g c =
+pub returns-in-Err-clause-does : goal.returns-in-Err-clause-does
+returns-in-Err-clause-does g c =
     let k = c.args.self.now in
     let look = g.S.Stage.rule k.stages in
     let w = c.turn_away.ensures in
-    record {
-      does =
-          turned_so g.S.Stage.held
+    turned_so g.S.Stage.held
           (prepare-by look (set_up_of k) (books_of k) _ c.args.account c.args.request c.args.time _ (Err c.in-Err.fault) (omega arith) c.if-not-has_account.ensures (omega arith) (prepare-read _ (Err c.in-Err.fault) c.in-Err.ensures.value))
           (record {
             answer = ap rejected (same-turned _ _ _ (w.ended ∙ ap (λ (r : Rejected). ended_as c.args.account c.args.request (our_bytes (set_up_of k).own r.code r.first r.second)) c.into-rejected.ensures) w.fault);
             books = c.advance.ensures;
             stack = refl;
             buffer_now = w.buffer ∙ ap (λ (r : Rejected). our_bytes (set_up_of k).own r.code r.first r.second ++ drop (length (our_bytes (set_up_of k).own r.code r.first r.second)) c.args.buffer.now) c.into-rejected.ensures;
-          });
-      kept = record { routes = refl; own = refl; hash = refl };
-      unchanged = tt;
-    }
+          })
 
-pub returns-in-Err-decide : goal.returns-in-Err-decide
-returns-in-Err-decide g c =
+pub returns-in-Err-decide-clause-does : goal.returns-in-Err-decide-clause-does
+returns-in-Err-decide-clause-does g c =
     let k = c.args.self.now in
     let look = g.S.Stage.rule k.stages in
     let p = prepare_of c.in-Ok.prepare in
     let w = c.turn_away-in-Err-decide.ensures in
-    record {
-      does =
-          turned_so g.S.Stage.held
+    turned_so g.S.Stage.held
           (prepare-by look (set_up_of k) (books_of k) _ c.args.account c.args.request c.args.time _ (Ok p) (omega arith) c.if-not-has_account.ensures (omega arith) (prepare-read _ (Ok c.in-Ok.prepare) c.in-Ok.ensures.value)
           ∙ decided-at look (set_up_of k) (books_of k) _ c.args.account c.args.request c.args.time p (Err c.in-Err-decide.rejected) c.advance.ensures (c.in-Err-decide.ensures.value c.args.request))
-          (record { answer = ap rejected (same-turned _ _ _ w.ended w.fault); books = c.advance.ensures; stack = refl; buffer_now = w.buffer });
-      kept = record { routes = refl; own = refl; hash = refl };
-      unchanged = tt;
-    }
+          (record { answer = ap rejected (same-turned _ _ _ w.ended w.fault); books = c.advance.ensures; stack = refl; buffer_now = w.buffer })
 
 pub forward-requires : goal.forward-requires
 forward-requires g c = record { ready = c.in-Ok-decide.ensures.ready; fits = c.in-Ok.ensures.fits; room = omega arith }
 
-pub returns-in-Ok-decide : goal.returns-in-Ok-decide
-returns-in-Ok-decide g c =
+pub returns-in-Ok-decide-clause-does : goal.returns-in-Ok-decide-clause-does
+returns-in-Ok-decide-clause-does g c =
     let k = c.args.self.now in
     let look = g.S.Stage.rule k.stages in
     let p = prepare_of c.in-Ok.prepare in
     let o = c.in-Ok-decide.onward in
     let w = c.forward.ensures in
     let open-before = g.S.Stage.held k.stages in
-    record {
-      does =
-          turned_so g.S.Stage.held
+    turned_so g.S.Stage.held
           (prepare-by look (set_up_of k) (books_of k) _ c.args.account c.args.request c.args.time _ (Ok p) (omega arith) c.if-not-has_account.ensures (omega arith) (prepare-read _ (Ok c.in-Ok.prepare) c.in-Ok.ensures.value)
           ∙ decided-at look (set_up_of k) (books_of k) _ c.args.account c.args.request c.args.time p (Ok o) c.advance.ensures (c.in-Ok-decide.ensures.value c.args.request))
           (record {
@@ -108,7 +84,4 @@ returns-in-Ok-decide g c =
             books = w.books ∙ ap (λ (d : Books). admitted (next_row d (reservation_for c.args.account c.args.request p (goes_to o) o.passed)) d) c.advance.ensures;
             stack = w.numbers ∙ ap (λ (d : Books). open-before ++ (d.last + 1) ∷ []) c.advance.ensures;
             buffer_now = w.buffer;
-          });
-      kept = record { routes = w.kept.routes; own = w.kept.own; hash = w.kept.hash };
-      unchanged = tt;
-    }
+          })
