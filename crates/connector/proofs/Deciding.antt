@@ -1,5 +1,5 @@
 -- What is decided of a Prepare, by the tests that the code makes.
-use Rattle.std.proofs.Common.{◌≡◌, ℕ, ◌+◌, ◌<◌, ◌≤◌, true, false, cond, not, leb, List, ◌++◌, length, take, is_some, Some, Ok, Option, sym, ap, ◌∙◌, arith, Result}
+use Rattle.std.proofs.Common.{◌≡◌, ℕ, ◌+◌, ◌<◌, ◌≤◌, true, false, cond, not, leb, List, is_some, Some, Ok, Option, sym, ap, ◌∙◌, Result}
 use Rattle.std.specs.Bool.{then_some}
 use Rattle.std.proofs.lemmas.Bool.{le-leb, lt-leb, and_from, ne_eqb}
 use Rattle.wire.specs.declared.code.RejectCode.TheVariants as code

@@ -100,7 +100,7 @@ impl<S: Stage, H: ConditionHash> Connector<S, H> {
             }
             Ending::Ours(code) => {
                 self.end(row, false);
-                self.reject(row, code, buffer)
+                self.reject(row.sender, row.request, code.into(), buffer)
             }
         }
     }

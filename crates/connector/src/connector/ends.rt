@@ -19,6 +19,7 @@ use pending::row::Pending;
 use protocol::ended::Ended;
 use protocol::refusal::Refusal;
 use stage::interface::Stage;
+use stage::transfer::Rejected;
 use wire::code::RejectCode;
 
 impl<S: Stage, H: ConditionHash> Connector<S, H> {
@@ -34,16 +35,22 @@ impl<S: Stage, H: ConditionHash> Connector<S, H> {
         self.stages.close(row.number);
     }
 
-    // Writes a Reject of our own for a row, and says whom it answers.
-    pub(crate) fn reject(&self, row: &Pending, code: RejectCode, buffer: &mut [u8]) -> Ended
+    // Writes a Reject of our own, and says whom it answers.
+    pub(crate) fn reject(
+        &self,
+        sender: u8,
+        request: u32,
+        rejected: Rejected,
+        buffer: &mut [u8],
+    ) -> Ended
         requires { room_needed ≤ length buffer.old }
-        ensures value { result ≡ ended_as row.now.sender row.now.request (our_bytes (set_up_of self.now).own code 0 0) }
-        ensures buffer { buffer.new ≡ our_bytes (set_up_of self.now).own code 0 0 ++ drop (length (our_bytes (set_up_of self.now).own code 0 0)) buffer.old }
+        ensures value { result ≡ ended_as sender request (our_bytes (set_up_of self.now).own rejected.code rejected.first rejected.second) }
+        ensures buffer { buffer.new ≡ our_bytes (set_up_of self.now).own rejected.code rejected.first rejected.second ++ drop (length (our_bytes (set_up_of self.now).own rejected.code rejected.first rejected.second)) buffer.old }
     {
         Ended {
-            sender: row.sender,
-            request: row.request,
-            length: write_our_reject(&self.own, code.into(), buffer),
+            sender,
+            request,
+            length: write_our_reject(&self.own, rejected, buffer),
         }
     }
 
@@ -62,7 +69,8 @@ impl<S: Stage, H: ConditionHash> Connector<S, H> {
             return Err(Refusal::NotPending);
         }
         self.end(&row, false);
-        Ok(self.reject(&row, RejectCode::PeerUnreachable, buffer))
+        let code = RejectCode::PeerUnreachable;
+        Ok(self.reject(row.sender, row.request, code.into(), buffer))
     }
 
     // Ends the packet that is due first, by R00; none where none is due.
@@ -82,6 +90,8 @@ impl<S: Stage, H: ConditionHash> Connector<S, H> {
             return Ok(None);
         };
         self.end(&row, false);
-        Ok(Some(self.reject(&row, RejectCode::TransferTimedOut, buffer)))
+        let code = RejectCode::TransferTimedOut;
+        let ended = self.reject(row.sender, row.request, code.into(), buffer);
+        Ok(Some(ended))
     }
 }

@@ -18,17 +18,16 @@ use accounts::hold::Hold;
 use calendar::LAST_INSTANT;
 use condition::interface::ConditionHash;
 use ledger::reservation::Reservation;
-use messages::writing::{write_onward, write_our_reject};
+use messages::writing::write_onward;
 use packet::reading::read_prepare;
 use packet::value::Prepare;
 use packet_writer::writing::LONGEST_PACKET;
-use protocol::ended::{Ended, Rejected as TurnedAway};
+use protocol::ended::Rejected as TurnedAway;
 use protocol::refusal::Refusal;
 use stage::accounts::AccountPair;
 use stage::interface::Stage;
 use stage::transfer::{Rejected, Transfer};
 use wire::code::RejectCode;
-use wire::fault::Fault;
 
 impl<S: Stage, H: ConditionHash> Connector<S, H> {
     // A peer sends a Prepare.
@@ -57,20 +56,17 @@ impl<S: Stage, H: ConditionHash> Connector<S, H> {
         let prepare = match read_prepare(bytes) {
             Ok(prepare) => prepare,
             Err(fault) => {
-                let rejected = RejectCode::InvalidPacket.into();
-                return Ok(Prepared::Rejected(self.turn_away(
-                    account,
-                    request,
-                    rejected,
-                    Some(fault),
-                    buffer,
-                )));
+                let code = RejectCode::InvalidPacket;
+                let ended = self.reject(account, request, code.into(), buffer);
+                let fault = Some(fault);
+                return Ok(Prepared::Rejected(TurnedAway { ended, fault }));
             }
         };
         match self.decide(account, &prepare) {
-            Err(rejected) => Ok(Prepared::Rejected(self.turn_away(
-                account, request, rejected, None, buffer,
-            ))),
+            Err(rejected) => {
+                let ended = self.reject(account, request, rejected, buffer);
+                Ok(Prepared::Rejected(TurnedAway { ended, fault: None }))
+            }
             Ok(onward) => Ok(Prepared::Forwarded(self.forward(
                 account, request, &prepare, onward, buffer,
             ))),
@@ -90,7 +86,10 @@ impl<S: Stage, H: ConditionHash> Connector<S, H> {
         if prepare.expiry <= time {
             return Err(RejectCode::TransferTimedOut.into());
         }
-        let to = self.routes.find(prepare.destination).ok_or(RejectCode::Unreachable)?;
+        let to = self
+            .routes
+            .find(prepare.destination)
+            .ok_or(RejectCode::Unreachable)?;
         let accounts = AccountPair::new(account, to).ok_or(RejectCode::Unreachable)?;
         if !self.ledger.can_hold_in(account, prepare.amount) {
             return Err(RejectCode::InsufficientLiquidity.into());
@@ -148,30 +147,6 @@ impl<S: Stage, H: ConditionHash> Connector<S, H> {
             account: to,
             length: write_onward(prepare, onward.passed, buffer),
             duty: SendDuty::new(number),
-        }
-    }
-
-    // Writes the Reject for a Prepare that does not go on.
-    fn turn_away(
-        &self,
-        account: u8,
-        request: u32,
-        rejected: Rejected,
-        fault: Option<Fault>,
-        buffer: &mut [u8],
-    ) -> TurnedAway
-        requires { room_needed ≤ length buffer.old }
-        ensures ended { result.ended ≡ ended_as account request (our_bytes (set_up_of self.now).own rejected.code rejected.first rejected.second) }
-        ensures fault { result.fault ≡ fault }
-        ensures buffer { buffer.new ≡ our_bytes (set_up_of self.now).own rejected.code rejected.first rejected.second ++ drop (length (our_bytes (set_up_of self.now).own rejected.code rejected.first rejected.second)) buffer.old }
-    {
-        TurnedAway {
-            ended: Ended {
-                sender: account,
-                request,
-                length: write_our_reject(&self.own, rejected, buffer),
-            },
-            fault,
         }
     }
 }

@@ -1,6 +1,5 @@
 use Rattle.std.proofs.Common.{◌≡◌, ℕ, ◌+◌, Bool, true, false, cond, Some, None, sym, refl, ap, ◌∙◌, arith, Err, Ok, Result, subst}
 use Rattle.std.specs.Bool.{then_some}
-use Rattle.std.specs.Result.{IsErrAnd}
 use Rattle.wire.specs.declared.code.RejectCode.TheVariants as code
 use Rattle.packet.specs.Values.{prepare_of}
 use Rattle.stage.specs.declared.transfer.Rejected.{Rejected}

@@ -1,12 +1,9 @@
-use Rattle.std.proofs.Common.{◌≡◌, ℕ, ◌+◌, [], ◌∷◌, ◌++◌, length, drop, Ok, Err, Option, Result, sym, refl, ap, ◌∙◌, subst, arith}
-use Rattle.wire.specs.declared.fault.Fault.{Fault}
+use Rattle.std.proofs.Common.{◌≡◌, ℕ, ◌+◌, [], ◌∷◌, ◌++◌, length, drop, Some, None, Ok, Err, Result, sym, refl, ap, ◌∙◌, subst, arith}
 use Rattle.packet.specs.Values.{PrepareValue, prepare_of}
 use Rattle.stage.specs.declared.transfer.Transfer.{Transfer}
 use Rattle.stage.specs.declared.transfer.Rejected.{Rejected}
 use Rattle.stage.specs.declared.transfer.Passed.{Passed}
 use Rattle.ledger.specs.Books.{Books, advanced, admitted, next_row}
-use Rattle.protocol.specs.declared.ended.Ended.{Ended}
-use Rattle.protocol.specs.declared.ended.Rejected as turned
 use Rattle.protocol.specs.Messages.{our_bytes, forwarded_bytes}
 use Rattle.protocol.specs.Outcomes.{SetUp, rejected, forwarded}
 use Rattle.protocol.specs.Calls.{time_at, by_prepare, reservation_for}
@@ -21,9 +18,6 @@ use Rattle.connector.proofs.connector.Connector.prepare.Goals as goal
 -- what is decided at the advanced time is what the call comes to
 decided-at : (look : Transfer → Result Passed Rejected) (s : SetUp) (b d : Books) (a q t : ℕ) (p : PrepareValue) (r : Result Onward Rejected) → d ≡ advanced t b → decided d a q p r ≡ by_prepare look s d a q d.time (Ok p) → by_prepare look s b a q (time_at b t) (Ok p) ≡ decided (advanced t b) a q p r
 decided-at look s b d a q t p r e h = sym (subst (λ (x : Books). decided x a q p r ≡ by_prepare look s x a q x.time (Ok p)) e h)
-
-same-turned : (x : turned.Rejected) (e : Ended) (f : Option Fault) → x.ended ≡ e → x.fault ≡ f → x ≡ record { ended = e; fault = f }
-same-turned x e f g h = λ i. record { ended = g i; fault = h i }
 
 pub returns-then-buffer-lt-LONGEST_PACKET-clause-does : goal.returns-then-buffer-lt-LONGEST_PACKET-clause-does
 returns-then-buffer-lt-LONGEST_PACKET-clause-does g c =
@@ -44,26 +38,26 @@ pub returns-in-Err-clause-does : goal.returns-in-Err-clause-does
 returns-in-Err-clause-does g c =
     let k = c.args.self.now in
     let look = g.S.Stage.rule k.stages in
-    let w = c.turn_away.ensures in
+    let w = c.reject-ended.ensures in
     turned_so g.S.Stage.held
-          (prepare-by look (set_up_of k) (books_of k) _ c.args.account c.args.request c.args.time _ (Err c.in-Err.fault) (omega arith) c.if-not-has_account.ensures (omega arith) (prepare-read _ (Err c.in-Err.fault) c.in-Err.ensures.value))
-          (record {
-            answer = ap rejected (same-turned _ _ _ (w.ended ∙ ap (λ (r : Rejected). ended_as c.args.account c.args.request (our_bytes (set_up_of k).own r.code r.first r.second)) c.into-rejected.ensures) w.fault);
-            books = c.advance.ensures;
-            stack = refl;
-            buffer_now = w.buffer ∙ ap (λ (r : Rejected). our_bytes (set_up_of k).own r.code r.first r.second ++ drop (length (our_bytes (set_up_of k).own r.code r.first r.second)) c.args.buffer.now) c.into-rejected.ensures;
-          })
+    (prepare-by look (set_up_of k) (books_of k) _ c.args.account c.args.request c.args.time _ (Err c.in-Err.fault) (omega arith) c.if-not-has_account.ensures (omega arith) (prepare-read _ (Err c.in-Err.fault) c.in-Err.ensures.value))
+    (record {
+      answer = ap (λ e. rejected (record { ended = e; fault = Some c.in-Err.fault })) (w.value ∙ ap (λ (r : Rejected). ended_as c.args.account c.args.request (our_bytes (set_up_of k).own r.code r.first r.second)) c.into.ensures);
+      books = c.advance.ensures;
+      stack = refl;
+      buffer_now = w.buffer ∙ ap (λ (r : Rejected). our_bytes (set_up_of k).own r.code r.first r.second ++ drop (length (our_bytes (set_up_of k).own r.code r.first r.second)) c.args.buffer.now) c.into.ensures;
+    })
 
 pub returns-in-Err-decide-clause-does : goal.returns-in-Err-decide-clause-does
 returns-in-Err-decide-clause-does g c =
     let k = c.args.self.now in
     let look = g.S.Stage.rule k.stages in
     let p = prepare_of c.in-Ok.prepare in
-    let w = c.turn_away-in-Err-decide.ensures in
+    let w = c.reject-ended-in-Err-decide.ensures in
     turned_so g.S.Stage.held
-          (prepare-by look (set_up_of k) (books_of k) _ c.args.account c.args.request c.args.time _ (Ok p) (omega arith) c.if-not-has_account.ensures (omega arith) (prepare-read _ (Ok c.in-Ok.prepare) c.in-Ok.ensures.value)
-          ∙ decided-at look (set_up_of k) (books_of k) _ c.args.account c.args.request c.args.time p (Err c.in-Err-decide.rejected) c.advance.ensures (c.in-Err-decide.ensures.value c.args.request))
-          (record { answer = ap rejected (same-turned _ _ _ w.ended w.fault); books = c.advance.ensures; stack = refl; buffer_now = w.buffer })
+    (prepare-by look (set_up_of k) (books_of k) _ c.args.account c.args.request c.args.time _ (Ok p) (omega arith) c.if-not-has_account.ensures (omega arith) (prepare-read _ (Ok c.in-Ok.prepare) c.in-Ok.ensures.value)
+    ∙ decided-at look (set_up_of k) (books_of k) _ c.args.account c.args.request c.args.time p (Err c.in-Err-decide.rejected) c.advance.ensures (c.in-Err-decide.ensures.value c.args.request))
+    (record { answer = ap (λ e. rejected (record { ended = e; fault = None })) w.value; books = c.advance.ensures; stack = refl; buffer_now = w.buffer })
 
 pub forward-requires : goal.forward-requires
 forward-requires g c = record { ready = c.in-Ok-decide.ensures.ready; fits = c.in-Ok.ensures.fits; room = omega arith }
@@ -77,11 +71,11 @@ returns-in-Ok-decide-clause-does g c =
     let w = c.forward.ensures in
     let open-before = g.S.Stage.held k.stages in
     turned_so g.S.Stage.held
-          (prepare-by look (set_up_of k) (books_of k) _ c.args.account c.args.request c.args.time _ (Ok p) (omega arith) c.if-not-has_account.ensures (omega arith) (prepare-read _ (Ok c.in-Ok.prepare) c.in-Ok.ensures.value)
-          ∙ decided-at look (set_up_of k) (books_of k) _ c.args.account c.args.request c.args.time p (Ok o) c.advance.ensures (c.in-Ok-decide.ensures.value c.args.request))
-          (record {
-            answer = w.value ∙ ap (λ (d : Books). forwarded (d.last + 1) (goes_to o) (length (forwarded_bytes (going p o))) (d.last + 1)) c.advance.ensures;
-            books = w.books ∙ ap (λ (d : Books). admitted (next_row d (reservation_for c.args.account c.args.request p (goes_to o) o.passed)) d) c.advance.ensures;
-            stack = w.numbers ∙ ap (λ (d : Books). open-before ++ (d.last + 1) ∷ []) c.advance.ensures;
-            buffer_now = w.buffer;
-          })
+    (prepare-by look (set_up_of k) (books_of k) _ c.args.account c.args.request c.args.time _ (Ok p) (omega arith) c.if-not-has_account.ensures (omega arith) (prepare-read _ (Ok c.in-Ok.prepare) c.in-Ok.ensures.value)
+    ∙ decided-at look (set_up_of k) (books_of k) _ c.args.account c.args.request c.args.time p (Ok o) c.advance.ensures (c.in-Ok-decide.ensures.value c.args.request))
+    (record {
+      answer = w.value ∙ ap (λ (d : Books). forwarded (d.last + 1) (goes_to o) (length (forwarded_bytes (going p o))) (d.last + 1)) c.advance.ensures;
+      books = w.books ∙ ap (λ (d : Books). admitted (next_row d (reservation_for c.args.account c.args.request p (goes_to o) o.passed)) d) c.advance.ensures;
+      stack = w.numbers ∙ ap (λ (d : Books). open-before ++ (d.last + 1) ∷ []) c.advance.ensures;
+      buffer_now = w.buffer;
+    })

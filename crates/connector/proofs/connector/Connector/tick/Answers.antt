@@ -1,7 +1,10 @@
-use Rattle.std.proofs.Common.{false, ◌++◌, length, drop, refl, ap, ◌∙◌, arith}
+use Rattle.std.proofs.Common.{ℕ, List, ◌≡◌, false, ◌++◌, length, drop, refl, ap, ◌∙◌, arith}
 use Rattle.wire.specs.declared.code.RejectCode.TheVariants as code
 use Rattle.pending.specs.Rows.{due}
 use Rattle.ledger.specs.Books.{Books, closed}
+use Rattle.stage.specs.declared.transfer.Rejected.{Rejected}
+use Rattle.stage.specs.Verdicts.{plainly}
+use Rattle.messages.specs.declared.own.OwnAddress.{OwnAddress}
 use Rattle.messages.specs.Own.{own_bytes}
 use Rattle.protocol.specs.Messages.{our_bytes}
 use Rattle.protocol.specs.Outcomes.{ended}
@@ -10,6 +13,10 @@ use Rattle.connector.specs.Views.{books_of}
 use Rattle.connector.proofs.Due.{due-found}
 use Rattle.connector.proofs.Outcomes.{turned_so, refused_as, tick-short, tick-never, tick-by}
 use Rattle.connector.proofs.connector.Connector.tick.Goals as goal
+
+-- a Reject of our own: who rejects, and with what
+abbrev our_reject : OwnAddress × Rejected → List ℕ
+our_reject w = our_bytes (own_bytes w.0) w.1.code w.1.first w.1.second
 
 pub returns-then-buffer-lt-LONGEST_PACKET-clause-does : goal.returns-then-buffer-lt-LONGEST_PACKET-clause-does
 returns-then-buffer-lt-LONGEST_PACKET-clause-does g c =
@@ -31,12 +38,13 @@ end-requires g c = due-found c.advance.new.self _ c.in-Some.row c.in-Some.ensure
 pub returns-clause-does : goal.returns-clause-does
 returns-clause-does g c =
     let e = c.end.ensures in
+    let told : ◌≡◌ {A = OwnAddress × Rejected} (c.end.new.self.own, c.into.result) (c.args.self.now.own, plainly code.TransferTimedOut) = λ i. (e.kept.own i, c.into.ensures i) in
     let r = c.in-Some.row in
     turned_so g.S.Stage.held
     (tick-by (books_of c.args.self.now) _ c.args.time _ (omega arith) (omega arith) (c.in-Some.ensures ∙ ap (λ (b : Books). due b.time b.rows) c.advance.ensures))
     (record {
-      answer = ap ended (c.reject.ensures.value ∙ ap (λ w. ended_as r.sender r.request (our_bytes (own_bytes w) code.TransferTimedOut 0 0)) e.kept.own);
+      answer = ap ended (c.reject-ended.ensures.value ∙ ap (λ w. ended_as r.sender r.request (our_reject w)) told);
       books = e.books ∙ ap (closed false r) c.advance.ensures;
       stack = (e.numbers, e.closed);
-      buffer_now = c.reject.ensures.buffer ∙ ap (λ w. our_bytes (own_bytes w) code.TransferTimedOut 0 0 ++ drop (length (our_bytes (own_bytes w) code.TransferTimedOut 0 0)) c.args.buffer.now) e.kept.own;
+      buffer_now = c.reject-ended.ensures.buffer ∙ ap (λ w. our_reject w ++ drop (length (our_reject w)) c.args.buffer.now) told;
     })

@@ -1,8 +1,11 @@
-use Rattle.std.proofs.Common.{◌≡◌, ℕ, ◌++◌, length, drop, Some, sym, refl, ap, ◌∙◌, arith}
+use Rattle.std.proofs.Common.{List, ◌≡◌, ℕ, ◌++◌, length, drop, Some, sym, refl, ap, ◌∙◌, arith}
 use Rattle.pending.specs.declared.row.Pending.{Pending}
 use Rattle.pending.specs.Rows.{lookup}
 use Rattle.ledger.specs.Books.{Books}
 use Rattle.ledger.proofs.RowLaws.{lookup-number}
+use Rattle.stage.specs.declared.transfer.Rejected.{Rejected}
+use Rattle.stage.specs.Verdicts.{plainly}
+use Rattle.messages.specs.declared.own.OwnAddress.{OwnAddress}
 use Rattle.messages.specs.Own.{own_bytes}
 use Rattle.protocol.specs.Messages.{our_bytes}
 use Rattle.protocol.specs.Outcomes.{ended}
@@ -18,6 +21,10 @@ use Rattle.connector.proofs.connector.Connector.unsent.Goals as goal
 
 found-again : (b : Books) (n : ℕ) (r : Pending) → Some r ≡ lookup n b.rows → lookup r.number b.rows ≡ Some r
 found-again b n r e = ap (λ m. lookup m b.rows) (lookup-number n b.rows r (sym e)) ∙ sym e
+
+-- a Reject of our own: who rejects, and with what
+abbrev our_reject : OwnAddress × Rejected → List ℕ
+our_reject w = our_bytes (own_bytes w.0) w.1.code w.1.first w.1.second
 
 pub returns-then-buffer-lt-LONGEST_PACKET-clause-does : goal.returns-then-buffer-lt-LONGEST_PACKET-clause-does
 returns-then-buffer-lt-LONGEST_PACKET-clause-does g c =
@@ -42,12 +49,13 @@ pub returns-clause-does : goal.returns-clause-does
 returns-clause-does g c =
     let b = books_of c.args.self.now in
     let e = c.end.ensures in
+    let told : ◌≡◌ {A = OwnAddress × Rejected} (c.end.new.self.own, c.into.result) (c.args.self.now.own, plainly code.PeerUnreachable) = λ i. (e.kept.own i, c.into.ensures i) in
     let r = c.in_ok-row.row in
     let found = sym c.in_ok-row.ensures.ok_part ∙ c.lookup.ensures ∙ ap (λ n. lookup n b.rows) c.spend-number.ensures in
     turned_so g.S.Stage.held (unsent-ends b _ c.args.duty.number r (omega arith) found c.if-row.false)
     (record {
-      answer = ap ended (c.reject.ensures.value ∙ ap (λ w. ended_as r.sender r.request (our_bytes (own_bytes w) code.PeerUnreachable 0 0)) e.kept.own);
+      answer = ap ended (c.reject.ensures.value ∙ ap (λ w. ended_as r.sender r.request (our_reject w)) told);
       books = e.books;
       stack = (e.numbers, e.closed);
-      buffer_now = c.reject.ensures.buffer ∙ ap (λ w. our_bytes (own_bytes w) code.PeerUnreachable 0 0 ++ drop (length (our_bytes (own_bytes w) code.PeerUnreachable 0 0)) c.args.buffer.now) e.kept.own;
+      buffer_now = c.reject.ensures.buffer ∙ ap (λ w. our_reject w ++ drop (length (our_reject w)) c.args.buffer.now) told;
     })
