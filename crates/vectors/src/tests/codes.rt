@@ -42,6 +42,9 @@ const NO_CODES: [&'static [u8]; 9] = [
 fn bytes_that_are_a_code_or_none(rt: HostRuntime) {
     assert!(rt; is_code(b"F47") && is_code(b"T50") && is_code(b"R09"));
     for (i, bytes) in NO_CODES.iter().enumerate() {
-        assert!(rt; !is_code(bytes) && RejectCode::try_from(*bytes).is_err(), "{i}");
+        assert!(rt;
+            !is_code(bytes) && RejectCode::try_from(*bytes).is_err(),
+            "{i}"
+        );
     }
 }

@@ -139,20 +139,16 @@ fn check_meanings(
     cases: &[&[u8]],
     field: &str,
 ) -> Result<(), AllocError> {
+    let ends = [
+        (place.to, "whole"),
+        (place.packet.len(), "and nothing behind it"),
+    ];
     for (i, bytes) in cases.iter().enumerate() {
-        let name = format_args!("{field}: {i}: whole");
-        let whole = damaged(rt, place.packet, place.from, place.to, bytes, &name)?;
-        check_fault(rt, &whole, place.fault, &name);
-        let name = format_args!("{field}: {i}: and nothing behind it");
-        let cut = damaged(
-            rt,
-            place.packet,
-            place.from,
-            place.packet.len(),
-            bytes,
-            &name,
-        )?;
-        check_fault(rt, &cut, place.fault, &name);
+        for (to, what) in &ends {
+            let name = format_args!("{field}: {i}: {what}");
+            let packet = damaged(rt, place.packet, place.from, *to, bytes, &name)?;
+            check_fault(rt, &packet, place.fault, &name);
+        }
     }
     Ok(())
 }

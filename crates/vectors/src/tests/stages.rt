@@ -12,9 +12,7 @@ use std::process::Abort;
 use std::test::Fail;
 
 fn transfer(number: u32, amount: u64, expiry: u64, time: u64) -> Result<Transfer, Fail> {
-    let Some(accounts) = AccountPair::new(0, 1) else {
-        return Err(Fail::new("no pair"));
-    };
+    let accounts = AccountPair::new(0, 1).ok_or_else(|| Fail::new("no pair"))?;
     Ok(Transfer {
         number,
         accounts,
@@ -73,9 +71,9 @@ const MAXIMA: [(u64, u64, bool); 6] = [
 #[test]
 fn the_maximum_and_one_more(rt: HostRuntime) -> Result<(), Fail> {
     for (most, amount, passes) in &MAXIMA {
-        let Ok(layer) = Maximum::new([*most, 0, 0, 0, 0, 0, 0, 0], End::new()) else {
-            return Err(Fail::new("not made"));
-        };
+        let layer = Maximum::new([*most, 0, 0, 0, 0, 0, 0, 0], End::new()).map_err(|_| Fail::new(
+            "not made",
+        ))?;
         let verdict = layer.look(transfer(1, *amount, 10, 0)?);
         if *passes {
             check_passed(&rt, verdict, *amount, 10, amount);
@@ -103,9 +101,9 @@ const RATES: [(u32, u32, u64, Result<u64, &'static [u8]>); 10] = [
 #[test]
 fn conversions_at_their_edges(rt: HostRuntime) -> Result<(), Fail> {
     for (incoming, outgoing, amount, expected) in &RATES {
-        let Ok(layer) = Rate::new([*incoming, *outgoing, 1, 1, 1, 1, 1, 1], End::new()) else {
-            return Err(Fail::new("not made"));
-        };
+        let layer = Rate::new([*incoming, *outgoing, 1, 1, 1, 1, 1, 1], End::new()).map_err(
+            |_| Fail::new("not made"),
+        )?;
         let verdict = layer.look(transfer(1, *amount, 10, 0)?);
         match expected {
             Ok(result) => check_passed(&rt, verdict, *result, 10, amount),
@@ -134,9 +132,7 @@ const EXPIRIES: [(u64, u64, u64, u64, Option<u64>); 12] = [
 #[test]
 fn margins_and_holds(rt: HostRuntime) -> Result<(), Fail> {
     for (margin, hold, expiry, time, expected) in &EXPIRIES {
-        let Ok(layer) = Expiry::new(*margin, *hold, End::new()) else {
-            return Err(Fail::new("not made"));
-        };
+        let layer = Expiry::new(*margin, *hold, End::new()).map_err(|_| Fail::new("not made"))?;
         let verdict = layer.look(transfer(1, 7, *expiry, *time)?);
         match expected {
             Some(passed) => check_passed(&rt, verdict, 7, *passed, expiry),
@@ -207,9 +203,7 @@ const FIGURES: StackFigures = StackFigures {
 
 #[test]
 fn the_whole_stack(rt: HostRuntime) -> Result<(), Fail> {
-    let Ok(mut whole) = stack(FIGURES) else {
-        return Err(Fail::new("not made"));
-    };
+    let mut whole = stack(FIGURES).map_err(|_| Fail::new("not made"))?;
     let converted = whole.look(transfer(1, 250, 50_000, 10_000)?);
     check_passed(&rt, converted, 500, 40_000, &"all layers pass");
     let too_much = whole.look(transfer(1, 501, 50_000, 10_000)?);

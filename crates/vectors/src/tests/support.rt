@@ -34,12 +34,12 @@ pub(crate) fn check_read(
     expected: &Packet<'_>,
     name: &impl Display,
 ) {
-    let (prepare, answer): (Result<Prepare<'_>, Fault>, Result<Answer<'_>, Fault>) = match expected
-    {
-        Packet::Prepare(p) => (Ok(*p), Err(WRONG_TYPE)),
-        Packet::Fulfill(f) => (Err(WRONG_TYPE), Ok(Answer::Fulfill(*f))),
-        Packet::Reject(r) => (Err(WRONG_TYPE), Ok(Answer::Reject(*r))),
-    };
+    let (prepare, answer): (Result<Prepare<'_>, Fault>, Result<Answer<'_>, Fault>) =
+        match expected {
+            Packet::Prepare(p) => (Ok(*p), Err(WRONG_TYPE)),
+            Packet::Fulfill(f) => (Err(WRONG_TYPE), Ok(Answer::Fulfill(*f))),
+            Packet::Reject(r) => (Err(WRONG_TYPE), Ok(Answer::Reject(*r))),
+        };
     assert_eq!(rt; read_packet(bytes), Ok(*expected), "{name}: read_packet");
     assert_eq!(rt; read_prepare(bytes), prepare, "{name}: read_prepare");
     assert_eq!(rt; read_answer(bytes), answer, "{name}: read_answer");
