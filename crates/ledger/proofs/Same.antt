@@ -1,5 +1,5 @@
 -- When two ledgers are the same value, and what the answers of the parts say of the whole.
-use Rattle.std.proofs.Common.{◌≡◌, ℕ, ◌+◌, Bool, true, false, List, [], ◌∷◌, ◌++◌, length, Some, None, sym, refl, ap, ◌∙◌, arith}
+use Rattle.std.proofs.Common.{◌≡◌, ℕ, ◌+◌, Bool, true, false, List, [], ◌∷◌, ◌++◌, length, None, sym, ap, ◌∙◌}
 use mathlib.Core.Bool.{Bool-set}
 use mathlib.Core.HLevel.{is_prop→PathP}
 use native.Mathlib.Nat.{ℕ_set}
@@ -37,11 +37,6 @@ same-ledger l m t n a p = λ i. record {
 pub same-by-pending : (r : Bool) (l m : Ledger) → m.time ≡ l.time → m.last ≡ l.last → m.accounts ≡ l.accounts → pendings.SameUnless r l.pending m.pending → SameUnless r l m
 same-by-pending true l m t n a p = tt
 same-by-pending false l m t n a p = same-ledger m l t n a p
-
--- what is told by an option that stands where a test is passed
-pub told-some : {A : Type 0} (b : Bool) (x y : A) → Some y ≡ then_some b x → (b ≡ true) × (y ≡ x)
-told-some true x y e = (refl, cc)
-told-some false x y e = let z : ◌≡◌ {A = ℕ} 0 1 = cc in absurd (omega arith)
 
 pub told_none : {A : Type 0} (b : Bool) (x : A) → b ≡ false → None ≡ then_some b x
 told_none b x e = sym (ap (λ t. then_some t x) e)
