@@ -6,7 +6,7 @@ use Rattle.stage.specs.declared.transfer.Rejected.{Rejected}
 use Rattle.stage.specs.declared.transfer.Verdict.TheVariants.{Pass, Reject}
 use Rattle.accounts.specs.Figures.{can_hold_out}
 use Rattle.ledger.specs.Books.{has_number, next_row}
-use Rattle.ledger.proofs.Same.{told-some}
+use Rattle.accounts.proofs.Answered.{some-when}
 use Rattle.protocol.specs.Messages.{onward}
 use Rattle.protocol.specs.Outcomes.{rejects, forwards}
 use Rattle.protocol.specs.Calls.{reservation_for, plain_reject}
@@ -34,7 +34,7 @@ returns-in_default g c =
 pub returns-then-is_full : goal.returns-then-is_full
 returns-then-is_full g c =
     let k = c.args.self.now in
-    let n = told-some (has_number (books_of k)) ((books_of k).last + 1) c.in-Some.number c.in-Some.ensures in
+    let n = some-when _ _ _ c.in-Some.ensures in
     record {
       value = λ q. by_parts _ _ q _ _ c.plain-then-is_full.ensures ∙ full (g.S.Stage.rule k.stages) (set_up_of k) (books_of k) c.args.account q (prepare_of c.args.prepare.now) n.0 c.if-is_full.ensures;
       ready = tt;
@@ -43,7 +43,7 @@ returns-then-is_full g c =
 pub returns-then-prepare-time : goal.returns-then-prepare-time
 returns-then-prepare-time g c =
     let k = c.args.self.now in
-    let n = told-some (has_number (books_of k)) ((books_of k).last + 1) c.in-Some.number c.in-Some.ensures in
+    let n = some-when _ _ _ c.in-Some.ensures in
     record {
       value = λ q. by_parts _ _ q _ _ c.plain-then-prepare-time.ensures ∙ late (g.S.Stage.rule k.stages) (set_up_of k) (books_of k) c.args.account q (prepare_of c.args.prepare.now) n.0 c.if-is_full.ensures (omega (arith, c.time-time.ensures));
       ready = tt;
@@ -52,7 +52,7 @@ returns-then-prepare-time g c =
 pub returns-in_default-find : goal.returns-in_default-find
 returns-in_default-find g c =
     let k = c.args.self.now in
-    let n = told-some (has_number (books_of k)) ((books_of k).last + 1) c.in-Some.number c.in-Some.ensures in
+    let n = some-when _ _ _ c.in-Some.ensures in
     record {
       value = λ q.
           by_parts _ _ q _ _ c.plain-in_default-find.ensures
@@ -64,7 +64,7 @@ returns-in_default-find g c =
 pub returns-in_default-new : goal.returns-in_default-new
 returns-in_default-new g c =
     let k = c.args.self.now in
-    let n = told-some (has_number (books_of k)) ((books_of k).last + 1) c.in-Some.number c.in-Some.ensures in
+    let n = some-when _ _ _ c.in-Some.ensures in
     record {
       value = λ q.
           by_parts _ _ q _ _ c.plain-in_default-new.ensures
@@ -76,7 +76,7 @@ returns-in_default-new g c =
 pub returns-then-not-can_hold_in : goal.returns-then-not-can_hold_in
 returns-then-not-can_hold_in g c =
     let k = c.args.self.now in
-    let n = told-some (has_number (books_of k)) ((books_of k).last + 1) c.in-Some.number c.in-Some.ensures in
+    let n = some-when _ _ _ c.in-Some.ensures in
     record {
       value = λ q.
           by_parts _ _ q _ _ c.plain-then-not-can_hold_in.ensures
@@ -90,7 +90,7 @@ returns-in-Reject g c =
     let k = c.args.self.now in
     let look = g.S.Stage.rule k.stages in
     let p = prepare_of c.args.prepare.now in
-    let n = told-some (has_number (books_of k)) ((books_of k).last + 1) c.in-Some.number c.in-Some.ensures in
+    let n = some-when _ _ _ c.in-Some.ensures in
     record {
       value = λ q.
           looked look (set_up_of k) (books_of k) c.args.account q p
@@ -104,7 +104,7 @@ returns-then-not-can_hold_out g c =
     let k = c.args.self.now in
     let look = g.S.Stage.rule k.stages in
     let p = prepare_of c.args.prepare.now in
-    let n = told-some (has_number (books_of k)) ((books_of k).last + 1) c.in-Some.number c.in-Some.ensures in
+    let n = some-when _ _ _ c.in-Some.ensures in
     record {
       value = λ q.
           by_parts _ _ q _ _ c.plain-then-not-can_hold_out.ensures
@@ -124,7 +124,7 @@ returns-else-not-can_hold_out g c =
     let to = c.in-Some-find.to in
     let x = c.in-Some-new.accounts in
     let both = c.in-Some-new.ensures in
-    let n = told-some (has_number (books_of k)) ((books_of k).last + 1) c.in-Some.number c.in-Some.ensures in
+    let n = some-when _ _ _ c.in-Some.ensures in
     record {
       value = λ q.
           ap (λ o. forwards (books_of k).time (next_row (books_of k) (reservation_for c.args.account q p o v)) (onward p v.amount v.expiry)) both.1
