@@ -1,11 +1,7 @@
 -- What an answer that depends on a test tells of the test. Assumes nothing.
-use Rattle.std.proofs.Common.{◌≡◌, Bool, true, false, Some, None, refl}
+use Rattle.std.proofs.Common.{◌≡◌, Bool, true, false, Some, refl}
 use Rattle.std.specs.Bool.{then_some}
 
 pub some-when : {X : Type 0} (b : Bool) (x y : X) → Some x ≡ then_some b y → (b ≡ true) × (x ≡ y)
 some-when true x y e = (refl, cc)
 some-when false x y e = (cc, cc)
-
-pub none-when : {X : Type 0} (b : Bool) (y : X) → None ≡ then_some b y → b ≡ false
-none-when true y e = cc
-none-when false y e = refl

@@ -1,5 +1,5 @@
 -- The limits of an account, as tests and as facts. Assumes nothing.
-use Rattle.std.proofs.Common.{◌≡◌, ℕ, ◌<◌, ◌≤◌, Bool, true, false, T, leb, ℤ, pos, ◌≤ℤ◌, ◌<ℤ◌, Some, sym, refl, ap, ◌∙◌, ⊎_elim, arith}
+use Rattle.std.proofs.Common.{◌≡◌, ℕ, ◌<◌, ◌≤◌, Bool, true, false, cond, T, leb, ℤ, pos, ◌-ℤ◌, ◌≤ℤ◌, ◌<ℤ◌, Some, sym, refl, ap, ◌∙◌, ⊎_elim, arith}
 use Rattle.std.proofs.option.Match.{when_true}
 use Rattle.std.proofs.lemmas.Int.{ints}
 use Rattle.std.proofs.lemmas.Bool.{and_from, cases_lt, le-leb, lt-leb}
@@ -47,3 +47,12 @@ can-raise m f k h = keeps-within (settled 1 m f) (omega (arith, ints), omega (ar
 
 pub settled-by : (way m : ℕ) (f : Figures) (z : ℤ) → can_settle way m f ≡ true → z ≡ settled_balance way m f → Some (with_balance z f) ≡ then_some (can_settle way m f) (settled way m f)
 settled-by way m f z can e = ap (λ x. Some (with_balance x f)) e ∙ when_true (can_settle way m f) (settled way m f) can
+
+-- what is booked of an amount: nothing or all of it
+pub booked_bounds : (paid : Bool) (m : ℕ) (z : ℤ) → z ≡ cond paid (pos m) (pos 0) → (pos 0 ≤ℤ z) × (z ≤ℤ pos m)
+booked_bounds true m z e = (omega (arith, ints), omega (arith, ints))
+booked_bounds false m z e = (omega (arith, ints), omega (arith, ints))
+
+pub booked-out : (paid : Bool) (m : ℕ) (z b after : ℤ) → z ≡ cond paid (pos m) (pos 0) → after ≡ (b -ℤ z) → after ≡ cond paid (b -ℤ pos m) b
+booked-out true m z b after e f = cc
+booked-out false m z b after e f = omega (arith, ints)

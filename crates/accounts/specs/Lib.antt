@@ -1,3 +1,4 @@
+pub mod Changes
 pub mod Figures
 pub mod Views
 pub mod SetUps

@@ -6,7 +6,7 @@ use Rattle.accounts.specs.declared.account.Account.{Account}
 use Rattle.accounts.specs.declared.table.Accounts.{Accounts}
 
 abbrev pub figures_of : Account → Figures
-figures_of a = record { balance = a.balance; held_in = a.held_in; held_out = a.held_out; ceiling = a.ceiling; floor = a.floor }
+figures_of a = a.figures
 
 abbrev pub shown : Option Account → Option Figures
 shown = option_map figures_of

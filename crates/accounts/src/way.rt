@@ -1,6 +1,5 @@
 // The two ways of a settlement.
-ghost use Rattle.std.specs.Prelude.{◌≡◌};
-ghost use Rattle.accounts.specs.Ways.{way_of};
+ghost use Rattle.accounts.specs.Ways.{IsWayOf};
 
 // A payment of theirs lowers what they owe us, and one of ours raises it.
 #[derive(Clone, Copy)]
@@ -9,15 +8,21 @@ pub enum Way {
     WePaid,
 }
 
-impl Way {
-    // The way of a number: 0 for TheyPaid, 1 for WePaid.
-    pub fn of(number: u8) -> Option<Way>
-        ensures { result ≡ way_of number }
-    {
+// A number that no way has.
+#[derive(Clone, Copy)]
+pub struct UnknownWay;
+
+// 0 is TheyPaid, and 1 is WePaid.
+impl TryFrom<u8> for Way {
+    type Error = UnknownWay;
+
+    ghost try_from_gives = { IsWayOf };
+
+    fn try_from(number: u8) -> Result<Way, UnknownWay> {
         match number {
-            0 => Some(Way::TheyPaid),
-            1 => Some(Way::WePaid),
-            _ => None,
+            0 => Ok(Way::TheyPaid),
+            1 => Ok(Way::WePaid),
+            _ => Err(UnknownWay),
         }
     }
 }

@@ -1,16 +1,31 @@
--- The definition of SHA-256 one word and one round further, its padding as two writes into a block of zeros, and
--- its digest word by word.
+-- The definition of SHA-256 one word further, its rounds as one fold, and its padding as two writes into a block of
+-- zeros.
 -- Assumes nothing.
-use Rattle.std.proofs.Common.{◌≡◌, ℕ, ◌+◌, ◌-◌, ◌*◌, ◌<◌, ◌≤◌, List, [], ◌∷◌, ◌++◌, length, get_or, take, set, replicate, refl, ap, add-one, arith, rules}
-use borrow.Rule.Slice.PartMut.{put_mid}
-use Rattle.std.proofs.lemmas.List.{get_or-take, set-append_right, take_more, take_more_set}
-use Rattle.std.proofs.lemmas.Slice.{take-put_mid}
+use Rattle.std.proofs.Common.{◌≡◌, ℕ, zero, suc, sym, ◌∙◌, ◌+◌, ◌-◌, ◌<◌, ◌≤◌, List, [], ◌∷◌, ◌++◌, length, get_or, take, set, replicate, refl, ap, add-one, arith, rules}
+use Rattle.std.proofs.lemmas.List.{take_all, get_or-take, set-append_right, take_more_set}
+use Rattle.std.specs.List.{fold, zip}
+use Rattle.std.proofs.lemmas.List.Sums.{fold_more}
+use Rattle.std.proofs.lemmas.Slice.Zip.{get_or-zip, length-zip}
 use Rattle.condition.specs.declared.sha256.state.State.{State}
-use Rattle.condition.specs.Sha256.{bytes_of, constants, joined, next_word, padded, round, rounds, schedule, schedule_word}
+use Rattle.condition.specs.Sha256.{constants, next_word, padded, round, rounds, schedule, schedule_word}
 
-pub rounds-more : (w : List ℕ) (t : ℕ) (s : State) → rounds w (t + 1) s ≡ round (get_or constants t 0) (get_or w t 0) (rounds w t s)
+-- a round by a pair of a constant and a word
+abbrev pub pair_round : State → ℕ × ℕ → State
+pair_round s p = round p.0 p.1 s
+
+rounds-take : (w : List ℕ) (t : ℕ) (s : State) → length w ≡ 64 → t ≤ 64 → rounds w t s ≡ fold pair_round s (take t (zip constants w))
 unfolding rounds
-rounds-more w t s = rw add-one
+rounds-take w zero s n l = refl
+rounds-take w (suc t) s n l =
+    let there : t < 64 = omega arith in
+    let long : length (zip constants w) ≡ 64 = length-zip constants w ∙ omega arith in
+    ap (round (get_or constants t 0) (get_or w t 0)) (rounds-take w t s n (omega arith))
+    ∙ sym (ap (pair_round (fold pair_round s (take t (zip constants w)))) (get_or-zip constants w t (0, 0) there (omega arith)))
+    ∙ sym (rw (← add-one t) (fold_more pair_round s (zip constants w) t (0, 0) (omega arith)))
+
+-- the rounds as one fold over the constants and the words
+pub rounds-fold : (w : List ℕ) (s : State) → length w ≡ 64 → fold pair_round s (zip constants w) ≡ rounds w 64 s
+rounds-fold w s n = let long : length (zip constants w) ≤ 64 = omega (arith, length-zip constants w) in sym (rounds-take w 64 s n (omega arith) ∙ ap (fold pair_round s) (take_all 64 (zip constants w) long))
 
 pub schedule-more : (b : List ℕ) (t : ℕ) → schedule b (t + 1) ≡ schedule b t ++ (schedule_word b (schedule b t) t ∷ [])
 unfolding schedule
@@ -43,21 +58,3 @@ padded-is x h =
     let le : 32 ≤ 32 = omega arith in
     let more : 32 ≤ 62 = omega arith in
     rw (set-append_right x _ 32 32 0x80, set-append_right x _ 32 62 1)
-
-joined-append : (xs ys : List ℕ) → joined (xs ++ ys) ≡ joined xs ++ joined ys
-unfolding joined
-joined-append [] ys = refl
-joined-append (x ∷ xs) ys = ap (λ r. bytes_of x ++ r) (joined-append xs ys)
-
-joined-more : (ws : List ℕ) (i : ℕ) → i < length ws → joined (take (i + 1) ws) ≡ joined (take i ws) ++ bytes_of (get_or ws i 0)
-unfolding joined
-joined-more ws i h = rw (take_more ws i 0 h, joined-append (take i ws) (get_or ws i 0 ∷ []))
-
--- a turn of the loop that writes the words out
-pub bytes-step : (out ws new : List ℕ) (i k : ℕ) → i < length ws → 4 * i ≤ length out → take (4 * i) out ≡ joined (take i ws)
-    → new ≡ bytes_of (get_or ws i 0) → take (4 * (i + 1)) (put_mid (4 * i) k out new) ≡ joined (take (i + 1) ws)
-bytes-step out ws new i k h le e is =
-    let four : length new ≡ 4 = ap length is in
-    let p = take-put_mid (4 * i) k out new (4 * (i + 1)) (omega arith) le in
-    let q = joined-more ws i h in
-    cc

@@ -13,10 +13,8 @@ impl ConditionHash for Practice {
     ghost digest_of = { practice };
 
     fn hash(&self, input: &[u8; 32]) -> [u8; 32] {
-        let mut out = [0; 32];
-        for i in 0..32 {
-            out[i] = input[31 - i] ^ INVERTED;
-        }
+        let mut out = input.map(|byte| byte ^ INVERTED);
+        out.reverse();
         out
     }
 }

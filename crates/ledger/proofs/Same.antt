@@ -1,50 +1,10 @@
--- When two ledgers are the same value, and what the answers of the parts say of the whole.
-use Rattle.std.proofs.Common.{◌≡◌, ℕ, ◌+◌, Bool, true, false, List, [], ◌∷◌, ◌++◌, length, Some, None, sym, refl, ap, ◌∙◌, arith}
-use mathlib.Core.Bool.{Bool-set}
-use mathlib.Core.HLevel.{is_prop→PathP}
-use native.Mathlib.Nat.{ℕ_set}
-use Rattle.std.specs.Bool.{then_some}
+-- When two plain ledgers are the same.
+use Rattle.std.proofs.Common.{◌≡◌, ℕ, ◌+◌, List, [], ◌∷◌, ◌++◌, ap, ◌∙◌}
 use Rattle.pending.specs.declared.row.Pending.{Pending}
-use Rattle.pending.specs.Tables as pendings
 use Rattle.accounts.specs.declared.figures.Figures.{Figures}
 use Rattle.accounts.specs.Figures.{held}
-use Rattle.ledger.specs.declared.ledger.Ledger.{Ledger}
 use Rattle.ledger.specs.declared.reservation.Reservation.{Reservation}
-use Rattle.ledger.specs.Sums.{sum_in, sum_out, every, accounts_fit, is_given, rise}
-use Rattle.ledger.specs.Books.{Books, figures_at, Sound, admitted, row_of, next_row}
-use Rattle.ledger.specs.Parts.{books}
-use Rattle.ledger.specs.Views.{SameUnless}
-
-sound_prop : (b : Books) (s t : Sound b) → s ≡ t
-sound_prop b s t = λ i. (
-  Bool-set (rise 0 b.rows) true s.0 t.0 i,
-  Bool-set (every (is_given b.last) b.rows) true s.1 t.1 i,
-  Bool-set (every (accounts_fit (length b.accounts)) b.rows) true s.2 t.2 i,
-  λ a. ℕ_set (figures_at b a).held_in (sum_in a b.rows) (s.3 a) (t.3 a) i,
-  λ a. ℕ_set (figures_at b a).held_out (sum_out a b.rows) (s.4 a) (t.4 a) i,
-)
-
--- two ledgers with the same parts
-pub same-ledger : (l m : Ledger) → l.time ≡ m.time → l.last ≡ m.last → l.accounts ≡ m.accounts → l.pending ≡ m.pending → l ≡ m
-same-ledger l m t n a p = λ i. record {
-  time = t i;
-  last = n i;
-  accounts = a i;
-  pending = p i;
-  sound = is_prop→PathP (λ j. Sound (books (t j) (n j) (a j) (p j))) (λ j. sound_prop (books (t j) (n j) (a j) (p j))) l.sound m.sound i;
-}
-
-pub same-by-pending : (r : Bool) (l m : Ledger) → m.time ≡ l.time → m.last ≡ l.last → m.accounts ≡ l.accounts → pendings.SameUnless r l.pending m.pending → SameUnless r l m
-same-by-pending true l m t n a p = tt
-same-by-pending false l m t n a p = same-ledger m l t n a p
-
--- what is told by an option that stands where a test is passed
-pub told-some : {A : Type 0} (b : Bool) (x y : A) → Some y ≡ then_some b x → (b ≡ true) × (y ≡ x)
-told-some true x y e = (refl, cc)
-told-some false x y e = let z : ◌≡◌ {A = ℕ} 0 1 = cc in absurd (omega arith)
-
-pub told_none : {A : Type 0} (b : Bool) (x : A) → b ≡ false → None ≡ then_some b x
-told_none b x e = sym (ap (λ t. then_some t x) e)
+use Rattle.ledger.specs.Books.{Books, admitted, row_of, next_row}
 
 pub same_books : (t n : ℕ) (ps qs : List Pending) (xs ys : List Figures) → ps ≡ qs → xs ≡ ys → ◌≡◌ {A = Books} (record { time = t; last = n; rows = ps; accounts = xs }) (record { time = t; last = n; rows = qs; accounts = ys })
 same_books t n ps qs xs ys p x = cc

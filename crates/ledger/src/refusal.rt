@@ -4,19 +4,15 @@ ghost use Rattle.ledger.specs.Settling.{refusal_number};
 
 #[derive(Clone, Copy)]
 pub enum NotSettled {
-    NoAccount,
-    UnknownWay,
-    LimitWouldBreak,
+    NoAccount = 2,
+    UnknownWay = 6,
+    LimitWouldBreak = 7,
 }
 
 impl NotSettled {
     pub fn number(&self) -> u8
         ensures { result ≡ refusal_number self.now }
     {
-        match self {
-            NotSettled::NoAccount => 2,
-            NotSettled::UnknownWay => 6,
-            NotSettled::LimitWouldBreak => 7,
-        }
+        *self as u8
     }
 }

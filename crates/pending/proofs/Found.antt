@@ -1,11 +1,12 @@
 -- What the place of a number says of the rows, and what it says that there is none.
-use Rattle.std.proofs.Common.{◌≡◌, ℕ, suc, ◌+◌, ◌<◌, true, false, cond, eqb, List, [], ◌∷◌, length, get_or, set, Some, None, refl, ap, ◌∙◌, subst, arith}
-use Rattle.std.specs.List.{remove}
+use Rattle.std.proofs.Common.{◌≡◌, ℕ, suc, ◌+◌, ◌<◌, true, false, cond, eqb, List, [], ◌∷◌, length, get_or, set, Some, None, sym, refl, ap, ◌∙◌, subst, arith}
+use Rattle.std.specs.List.{remove, position_from}
+use Rattle.std.proofs.lemmas.Iterator.Adapters.{position_from-zero}
 use Rattle.std.proofs.lemmas.List.{length-take-le}
 use Rattle.pending.specs.declared.row.Pending.{Pending}
 use Rattle.pending.specs.declared.table.PendingTable.{PendingTable}
 use Rattle.pending.specs.Rows.{vacant, lookup, dropped, as_sent, marked}
-use Rattle.pending.specs.Tables.{rows_of, place_from, place}
+use Rattle.pending.specs.Tables.{rows_of, place}
 
 pub length-rows : (t : PendingTable) → length (rows_of t) ≡ t.len
 length-rows t =
@@ -37,11 +38,11 @@ found-later n r rs i e f =
       mark = ap (λ b. cond b (as_sent r ∷ rs) (r ∷ marked n rs)) e ∙ ap (λ ys. r ∷ ys) f.mark;
     }
 
-found_from : (j n : ℕ) (rs : List Pending) (i : ℕ) → place_from j n rs ≡ Some i → (k : ℕ) × (i ≡ j + k) × Found n rs k
+found_from : (j n : ℕ) (rs : List Pending) (i : ℕ) → position_from (λ r. eqb r.number n) j rs ≡ Some i → (k : ℕ) × (i ≡ j + k) × Found n rs k
 found_from j n [] i h = let z : ◌≡◌ {A = ℕ} 0 1 = cc in absurd (omega arith)
 found_from j n (r ∷ rs) i h =
     elim (eqb r.number n)
-    as (λ b. eqb r.number n ≡ b → cond b (Some j) (place_from (j + 1) n rs) ≡ Some i → (k : ℕ) × (i ≡ j + k) × Found n (r ∷ rs) k) [
+    as (λ b. eqb r.number n ≡ b → cond b (Some j) (position_from (λ r. eqb r.number n) (j + 1) rs) ≡ Some i → (k : ℕ) × (i ≡ j + k) × Found n (r ∷ rs) k) [
       | true ↦ λ e q. let g : j ≡ i = cc in (0, omega arith, found_here n r rs e)
       | false ↦ λ e q. let f = found_from (j + 1) n rs i q in (suc f.0, omega (arith, f.1), found-later n r rs f.0 e f.2)
     ]
@@ -50,16 +51,19 @@ found_from j n (r ∷ rs) i h =
 
 pub found : (n : ℕ) (rs : List Pending) (i : ℕ) → place n rs ≡ Some i → Found n rs i
 found n rs i h =
-    let f = found_from 0 n rs i h in
+    let f = found_from 0 n rs i (sym (position_from-zero (λ (r : Pending). eqb r.number n) rs) ∙ h) in
     let same : f.0 ≡ i = omega (arith, f.1) in
     subst (Found n rs) same f.2
 
-pub absent-from : (j n : ℕ) (rs : List Pending) → place_from j n rs ≡ None → (lookup n rs ≡ None) × (dropped n rs ≡ rs) × (marked n rs ≡ rs)
+absent-from : (j n : ℕ) (rs : List Pending) → position_from (λ r. eqb r.number n) j rs ≡ None → (lookup n rs ≡ None) × (dropped n rs ≡ rs) × (marked n rs ≡ rs)
 absent-from j n [] h = (refl, refl, refl)
 absent-from j n (r ∷ rs) h =
     elim (eqb r.number n)
-    as (λ b. cond b (Some j) (place_from (j + 1) n rs) ≡ None → (cond b (Some r) (lookup n rs) ≡ None) × (cond b rs (r ∷ dropped n rs) ≡ r ∷ rs) × (cond b (as_sent r ∷ rs) (r ∷ marked n rs) ≡ r ∷ rs)) [
+    as (λ b. cond b (Some j) (position_from (λ r. eqb r.number n) (j + 1) rs) ≡ None → (cond b (Some r) (lookup n rs) ≡ None) × (cond b rs (r ∷ dropped n rs) ≡ r ∷ rs) × (cond b (as_sent r ∷ rs) (r ∷ marked n rs) ≡ r ∷ rs)) [
       | true ↦ λ q. let z : ◌≡◌ {A = ℕ} 0 1 = cc in absurd (omega arith)
       | false ↦ λ q. let f = absent-from (j + 1) n rs q in (f.0, ap (λ ys. r ∷ ys) f.1, ap (λ ys. r ∷ ys) f.2)
     ]
     h
+
+pub absent : (n : ℕ) (rs : List Pending) → place n rs ≡ None → (lookup n rs ≡ None) × (dropped n rs ≡ rs) × (marked n rs ≡ rs)
+absent n rs h = absent-from 0 n rs (sym (position_from-zero (λ (r : Pending). eqb r.number n) rs) ∙ h)

@@ -67,7 +67,3 @@ not-reached rs t i e l = (
   ap (if_reached t) e.1 ∙ grind (arith, nat_tests),
   λ k h. after (get_or rs i vacant) (get_or rs k vacant) t l (soonest rs (get_or rs i vacant) e.1 k h),
 )
-
-pub none-there : (rs : List Pending) (t : ℕ) → rs ≡ [] → DueAt rs t None × FirstExpired rs t None
-none-there [] t e = (refl, λ k h. absurd (omega arith))
-none-there (r ∷ rs) t e = let z : ◌≡◌ {A = ℕ} 0 1 = cc in absurd (omega arith)

@@ -1,5 +1,6 @@
 -- What the calls of a table do. Assumes nothing.
-use Rattle.std.specs.Prelude.{◌≡◌, ℕ, ◌+◌, ◌<◌, Bool, true, false, cond, List, [], ◌∷◌, length, take, Some, None, Option, ◌==◌, nat_lt, slice_index_or}
+use Rattle.std.specs.Prelude.{◌≡◌, ℕ, ◌<◌, Bool, true, false, cond, List, [], length, take, Some, None, Option, ◌==◌, nat_lt, slice_index_or}
+use Rattle.std.specs.List.{position}
 use Rattle.pending.specs.declared.row.Pending.{Pending}
 use Rattle.pending.specs.declared.table.PendingTable.{PendingTable}
 use Rattle.pending.specs.Rows.{vacant, earliest, due}
@@ -16,13 +17,9 @@ is_full rs = length rs == most_pending
 abbrev pub rows_of : PendingTable → List Pending
 rows_of t = take t.len t.places
 
--- the place of the first row with a number, counted from a place
-abbrev pub place_from : ℕ → ℕ → List Pending → Option ℕ
-place_from i n [] = None
-place_from i n (r ∷ rs) = cond (r.number == n) (Some i) (place_from (i + 1) n rs)
-
+-- the place of the first row with a number
 abbrev pub place : ℕ → List Pending → Option ℕ
-place n = place_from 0 n
+place n rs = position (λ r. r.number == n) rs
 
 -- the row at a place
 abbrev pub row_at : List Pending → ℕ → Option Pending

@@ -1,7 +1,7 @@
 -- Routes as plain values: which of them make a table, and which one a destination takes. Assumes nothing.
-use Rattle.std.specs.Prelude.{◌≡◌, ℕ, ◌<◌, ◌≤◌, Bool, true, false, cond, not, ◌&&◌, ◌||◌, List, [], ◌∷◌, ◌++◌, length, take, Some, None, Option, nat_le, nat_lt}
+use Rattle.std.specs.Prelude.{◌≡◌, ℕ, ◌<◌, ◌≤◌, Bool, true, cond, not, ◌&&◌, List, [], ◌∷◌, ◌++◌, length, take, Some, None, Option, nat_le, nat_lt}
 use Rattle.std.specs.Option.{option_map}
-use Rattle.std.specs.List.{ContainsAt, AllByRecursion}
+use Rattle.std.specs.List.{ContainsAt, AllByRecursion, list_all, list_any}
 use Rattle.std.specs.Str.{bytes_eq}
 use Rattle.address.specs.Addresses.{is_prefix}
 
@@ -21,12 +21,10 @@ unfoldable pub route_fits : ℕ → RouteValue → Bool
 route_fits accounts r = nat_le (length r.prefix) longest_prefix && is_prefix r.prefix && nat_lt r.account accounts
 
 abbrev pub each_fits : ℕ → List RouteValue → Bool
-each_fits accounts [] = true
-each_fits accounts (r ∷ rs) = route_fits accounts r && each_fits accounts rs
+each_fits accounts = list_all (route_fits accounts)
 
 abbrev pub has_prefix : List RouteValue → List ℕ → Bool
-has_prefix [] p = false
-has_prefix (r ∷ rs) p = bytes_eq r.prefix p || has_prefix rs p
+has_prefix rs p = list_any (λ r. bytes_eq r.prefix p) rs
 
 abbrev pub no_prefix_twice : List RouteValue → Bool
 no_prefix_twice [] = true

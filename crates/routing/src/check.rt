@@ -6,7 +6,6 @@ ghost use Rattle.routing.specs.Routes.{route_fits, each_fits, has_prefix, no_pre
 use crate::entry::LONGEST;
 use crate::route::Route;
 use address::check::is_prefix;
-use wire::compare::same_bytes;
 
 // The most routes of a table.
 const MOST: usize = 32;
@@ -20,23 +19,13 @@ fn route_fits(accounts: u8, route: Route<'_>) -> bool
 fn each_fits(accounts: u8, routes: &[Route<'_>]) -> bool
     ensures { result ≡ each_fits accounts (given_list routes.now) }
 {
-    for route in routes {
-        if !route_fits(accounts, *route) {
-            return false;
-        }
-    }
-    true
+    routes.iter().all(|route| route_fits(accounts, *route))
 }
 
 fn has_prefix(routes: &[Route<'_>], prefix: &[u8]) -> bool
     ensures { result ≡ has_prefix (given_list routes.now) prefix.now }
 {
-    for route in routes {
-        if same_bytes(route.prefix, prefix) {
-            return true;
-        }
-    }
-    false
+    routes.iter().any(|route| route.prefix == prefix)
 }
 
 // Each prefix is looked for among the routes behind it.

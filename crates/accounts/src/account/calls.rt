@@ -1,6 +1,6 @@
 // How an account is made and changed. A call takes the account and gives the one after it; where it gives none, the
 // caller's own is as it was.
-ghost use Rattle.std.specs.Prelude.{◌≡◌, pos};
+ghost use Rattle.std.specs.Prelude.{◌≡◌, ◌<◌, ◌^◌, cond, pos};
 ghost use Rattle.std.specs.Bool.{then_some};
 ghost use Rattle.accounts.specs.Figures.{Keeps, new_account, limits_fit, room_in, room_out, takes_in, takes_out, holds_in, holds_out, hold_in, hold_out, end_in, end_out, settled, can_settle};
 ghost use Rattle.accounts.specs.Views.{figures_of, shown};
@@ -13,6 +13,14 @@ use crate::way::Way;
 // The greatest ceiling, and the greatest floor.
 pub const MOST_LIMIT: u64 = 4_000_000_000_000_000_000;
 
+// What is booked where a held amount ends: all of it where it was fulfilled.
+fn booked(amount: u64, fulfilled: bool) -> i64
+    requires { amount < 2 ^ 63 }
+    ensures { result ≡ cond fulfilled (pos amount) (pos 0) }
+{
+    if fulfilled { amount as i64 } else { 0 }
+}
+
 impl Account {
     // A new account, or none where a limit is out of bounds.
     pub fn new(ceiling: u64, floor: u64) -> Option<Account>
@@ -21,13 +29,13 @@ impl Account {
         if ceiling > MOST_LIMIT || floor > MOST_LIMIT {
             return None;
         }
-        Some(Account {
+        Some(Account::of(Figures {
             balance: 0,
             held_in: 0,
             held_out: 0,
             ceiling,
             floor,
-        })
+        }))
     }
 
     // The account of figures that keep both limits.
@@ -35,39 +43,27 @@ impl Account {
         requires { Keeps figures }
         ensures { figures_of result ≡ figures }
     {
-        Account {
-            balance: figures.balance,
-            held_in: figures.held_in,
-            held_out: figures.held_out,
-            ceiling: figures.ceiling,
-            floor: figures.floor,
-        }
+        Account { figures }
     }
 
     pub fn figures(self) -> Figures
         ensures { result ≡ figures_of self }
     {
-        Figures {
-            balance: self.balance,
-            held_in: self.held_in,
-            held_out: self.held_out,
-            ceiling: self.ceiling,
-            floor: self.floor,
-        }
+        self.figures
     }
 
     // What may still be held in: the ceiling is over the balance and what is held in together.
     pub(crate) fn room_in(self) -> u64
         ensures { pos result ≡ room_in (figures_of self) }
     {
-        (self.ceiling as i64 - self.balance) as u64 - self.held_in
+        (self.figures.ceiling as i64 - self.figures.balance) as u64 - self.figures.held_in
     }
 
     // What may still be held out.
     pub(crate) fn room_out(self) -> u64
         ensures { pos result ≡ room_out (figures_of self) }
     {
-        (self.balance + self.floor as i64) as u64 - self.held_out
+        (self.figures.balance + self.figures.floor as i64) as u64 - self.figures.held_out
     }
 
     // Holds an amount that is to come in, or none where the ceiling does not allow it.
@@ -77,13 +73,10 @@ impl Account {
         if amount > self.room_in() {
             return None;
         }
-        Some(Account {
-            balance: self.balance,
-            held_in: self.held_in + amount,
-            held_out: self.held_out,
-            ceiling: self.ceiling,
-            floor: self.floor,
-        })
+        Some(Account::of(Figures {
+            held_in: self.figures.held_in + amount,
+            ..self.figures
+        }))
     }
 
     // Holds an amount that is to go out, or none where the floor does not allow it.
@@ -93,65 +86,38 @@ impl Account {
         if amount > self.room_out() {
             return None;
         }
-        Some(Account {
-            balance: self.balance,
-            held_in: self.held_in,
-            held_out: self.held_out + amount,
-            ceiling: self.ceiling,
-            floor: self.floor,
-        })
+        Some(Account::of(Figures {
+            held_out: self.figures.held_out + amount,
+            ..self.figures
+        }))
     }
 
     // Frees an amount that is held in, and books it where it was fulfilled; none where less is held.
     pub fn end_in(self, amount: u64, fulfilled: bool) -> Option<Account>
         ensures { shown result ≡ then_some (holds_in amount (figures_of self)) (end_in fulfilled amount (figures_of self)) }
     {
-        if amount > self.held_in {
+        if amount > self.figures.held_in {
             return None;
         }
-        let held_in = self.held_in - amount;
-        if !fulfilled {
-            return Some(Account {
-                balance: self.balance,
-                held_in,
-                held_out: self.held_out,
-                ceiling: self.ceiling,
-                floor: self.floor,
-            });
-        }
-        Some(Account {
-            balance: self.balance + amount as i64,
-            held_in,
-            held_out: self.held_out,
-            ceiling: self.ceiling,
-            floor: self.floor,
-        })
+        Some(Account::of(Figures {
+            balance: self.figures.balance + booked(amount, fulfilled),
+            held_in: self.figures.held_in - amount,
+            ..self.figures
+        }))
     }
 
     // Frees an amount that is held out, and books it where it was fulfilled; none where less is held.
     pub fn end_out(self, amount: u64, fulfilled: bool) -> Option<Account>
         ensures { shown result ≡ then_some (holds_out amount (figures_of self)) (end_out fulfilled amount (figures_of self)) }
     {
-        if amount > self.held_out {
+        if amount > self.figures.held_out {
             return None;
         }
-        let held_out = self.held_out - amount;
-        if !fulfilled {
-            return Some(Account {
-                balance: self.balance,
-                held_in: self.held_in,
-                held_out,
-                ceiling: self.ceiling,
-                floor: self.floor,
-            });
-        }
-        Some(Account {
-            balance: self.balance - amount as i64,
-            held_in: self.held_in,
-            held_out,
-            ceiling: self.ceiling,
-            floor: self.floor,
-        })
+        Some(Account::of(Figures {
+            balance: self.figures.balance - booked(amount, fulfilled),
+            held_out: self.figures.held_out - amount,
+            ..self.figures
+        }))
     }
 
     // Takes an amount off the balance, or none where the floor does not allow it.
@@ -161,13 +127,10 @@ impl Account {
         if amount > self.room_out() {
             return None;
         }
-        Some(Account {
-            balance: self.balance - amount as i64,
-            held_in: self.held_in,
-            held_out: self.held_out,
-            ceiling: self.ceiling,
-            floor: self.floor,
-        })
+        Some(Account::of(Figures {
+            balance: self.figures.balance - amount as i64,
+            ..self.figures
+        }))
     }
 
     // Adds an amount to the balance, or none where the ceiling does not allow it.
@@ -177,13 +140,10 @@ impl Account {
         if amount > self.room_in() {
             return None;
         }
-        Some(Account {
-            balance: self.balance + amount as i64,
-            held_in: self.held_in,
-            held_out: self.held_out,
-            ceiling: self.ceiling,
-            floor: self.floor,
-        })
+        Some(Account::of(Figures {
+            balance: self.figures.balance + amount as i64,
+            ..self.figures
+        }))
     }
 
     // Books a settlement, or none where a limit does not allow it.

@@ -2,6 +2,7 @@
 ghost use Rattle.std.specs.Prelude.{◌≡◌, ℕ, ◌<◌, true, false, length, is_some, if◌then◌else◌, slice_index_or, slice_set};
 ghost use Rattle.std.specs.Bool.{then_some};
 ghost use Rattle.accounts.specs.Figures.{Keeps, unset, adjust, is_set_up, two_set_up, can_hold_in, can_hold_out, can_hold, held, can_end, ended, settled_balance, settled, can_settle_at};
+ghost use Rattle.accounts.specs.Changes.{ChangesBoth};
 ghost use Rattle.accounts.specs.SetUps.{set_up_fits, new_accounts};
 ghost use Rattle.accounts.specs.Views.{figures_of, figures_list, table_shown};
 ghost use Rattle.accounts.specs.Ways.{way_number};
@@ -57,10 +58,7 @@ impl Accounts {
         ensures value { result ≡ then_some (is_set_up (figures_list self.now) account) (slice_index_or (figures_list self.now) account unset) }
         ensures kept { (a : ℕ) → Keeps (slice_index_or (figures_list self.now) a unset) }
     {
-        if !self.has(account) {
-            return None;
-        }
-        Some(self.rows[account as usize])
+        self.rows[..self.count].get(account as usize).copied()
     }
 
     // An account that is set up, as a value of its own.
@@ -100,24 +98,43 @@ impl Accounts {
         self.has(hold.sender) && self.has(hold.outgoing) && hold.sender != hold.outgoing
     }
 
+    // Changes the two accounts of a hold, or none of them: where they are set up and differ, and each change gives one.
+    fn change<I: FnOnce(Account) -> Option<Account>, O: FnOnce(Account) -> Option<Account>>(
+        &mut self,
+        hold: Hold,
+        change_in: I,
+        change_out: O,
+    ) -> bool
+        requires incoming { I.IsAlwaysCallable change_in }
+        requires outgoing { O.IsAlwaysCallable change_out }
+        ensures changed { ChangesBoth (I.post change_in) (O.post change_out) hold (figures_list self.old) result (figures_list self.new) }
+        ensures unchanged { result ≡ false → self.new ≡ self.old }
+    {
+        if !self.has_two(hold) {
+            return false;
+        }
+        let Some(sender) = change_in(self.at(hold.sender)) else {
+            return false;
+        };
+        let Some(outgoing) = change_out(self.at(hold.outgoing)) else {
+            return false;
+        };
+        self.put(hold.sender, sender);
+        self.put(hold.outgoing, outgoing);
+        true
+    }
+
     // Holds both amounts, or none of them.
     pub fn hold(&mut self, hold: Hold) -> bool
         ensures answer { result ≡ can_hold (figures_list self.old) hold }
         ensures figures { figures_list self.new ≡ (if result then held hold (figures_list self.old) else figures_list self.old) }
         ensures unchanged { result ≡ false → self.new ≡ self.old }
     {
-        if !self.has_two(hold) {
-            return false;
-        }
-        let Some(sender) = self.at(hold.sender).hold_in(hold.amount_in) else {
-            return false;
-        };
-        let Some(outgoing) = self.at(hold.outgoing).hold_out(hold.amount_out) else {
-            return false;
-        };
-        self.put(hold.sender, sender);
-        self.put(hold.outgoing, outgoing);
-        true
+        self.change(
+            hold,
+            |sender| sender.hold_in(hold.amount_in),
+            |outgoing| outgoing.hold_out(hold.amount_out),
+        )
     }
 
     // Ends a hold: frees both amounts, and books them where it was fulfilled. Nothing is done where less is held.
@@ -126,18 +143,11 @@ impl Accounts {
         ensures figures { figures_list self.new ≡ (if result then ended fulfilled hold (figures_list self.old) else figures_list self.old) }
         ensures unchanged { result ≡ false → self.new ≡ self.old }
     {
-        if !self.has_two(hold) {
-            return false;
-        }
-        let Some(sender) = self.at(hold.sender).end_in(hold.amount_in, fulfilled) else {
-            return false;
-        };
-        let Some(outgoing) = self.at(hold.outgoing).end_out(hold.amount_out, fulfilled) else {
-            return false;
-        };
-        self.put(hold.sender, sender);
-        self.put(hold.outgoing, outgoing);
-        true
+        self.change(
+            hold,
+            |sender| sender.end_in(hold.amount_in, fulfilled),
+            |outgoing| outgoing.end_out(hold.amount_out, fulfilled),
+        )
     }
 
     // Books a settlement and gives the new balance, or none where the account is not set up or a limit does not allow it.

@@ -106,10 +106,8 @@ fn step(s: State, k: u32, w: u32) -> State
 pub(super) fn compress(w: &[u32; 64]) -> State
     ensures { result ≡ rounds w.now 64 initial }
 {
-    let k = round_constants();
-    let mut s = state::start();
-    for t in 0..64 {
-        s = step(s, k[t], w[t]);
-    }
-    s
+    round_constants()
+        .iter()
+        .zip(w)
+        .fold(state::start(), |s, (k, word)| step(s, *k, *word))
 }

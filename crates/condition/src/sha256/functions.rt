@@ -1,4 +1,4 @@
-// The six functions on words that the schedule and the rounds are made of.
+// The six functions on words that the schedule and the rounds are made of, each under its name in FIPS 180-4.
 ghost use Rattle.std.specs.Prelude.{◌≡◌};
 ghost use Rattle.condition.specs.Sha256.{Ch, Maj, Σ₀, Σ₁, σ₀, σ₁};
 

@@ -24,7 +24,8 @@ fn block_word(block: &[u8; 64], t: usize) -> u32
 }
 
 fn next_word(w: &[u32; 64], t: usize) -> u32
-    requires { (16 ≤ t) × (t < 64) }
+    requires from { 16 ≤ t }
+    requires below { t < 64 }
     ensures { result ≡ next_word w.now t }
 {
     small_sigma1(w[t - 2])
@@ -45,6 +46,7 @@ fn schedule_word(block: &[u8; 64], w: &[u32; 64], t: usize) -> u32
     }
 }
 
+// A word is made of those before it, so each is written at its place while the array is read.
 pub(super) fn expand(block: &[u8; 64]) -> [u32; 64]
     ensures { result ≡ schedule block.now 64 }
 {

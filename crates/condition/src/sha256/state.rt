@@ -50,10 +50,8 @@ pub(super) fn add(s: State, t: State) -> State
 pub(super) fn bytes(s: State) -> [u8; 32]
     ensures { result ≡ output s }
 {
-    let words = [s.a, s.b, s.c, s.d, s.e, s.f, s.g, s.h];
+    let words = [s.a, s.b, s.c, s.d, s.e, s.f, s.g, s.h].map(u32::to_be_bytes);
     let mut out = [0; 32];
-    for i in 0..8 {
-        out[4 * i..4 * i + 4].copy_from_slice(&words[i].to_be_bytes());
-    }
+    out.copy_from_slice(words.as_flattened());
     out
 }

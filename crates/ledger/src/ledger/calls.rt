@@ -45,19 +45,14 @@ impl Ledger {
     pub fn advance(&mut self, time: u64)
         ensures { view self.new ≡ advanced time (view self.old) }
     {
-        if time > self.time {
-            self.time = time;
-        }
+        self.time = self.time.max(time);
     }
 
     // The number that the next row gets; none where the last one has been given.
     pub fn next_number(&self) -> Option<u32>
         ensures { result ≡ then_some (has_number (view self.now)) ((view self.now).last + 1) }
     {
-        if self.last == u32::MAX {
-            return None;
-        }
-        Some(self.last + 1)
+        self.last.checked_add(1)
     }
 
     // Whether 64 are pending.
@@ -163,9 +158,7 @@ impl Ledger {
         if !self.has_account(account) {
             return Err(NotSettled::NoAccount);
         }
-        let Some(way) = Way::of(way) else {
-            return Err(NotSettled::UnknownWay);
-        };
+        let way = Way::try_from(way).map_err(|_| NotSettled::UnknownWay)?;
         self.accounts
             .settle(account, way, amount)
             .ok_or(NotSettled::LimitWouldBreak)

@@ -1,21 +1,13 @@
 // Accounts at their limits: what may be held, booked and settled exactly up to them, and what one more gives.
-use super::support::some;
+use super::support::{check_figures, some};
 use accounts::account::Account;
-use accounts::figures::Figures;
 use accounts::hold::Hold;
 use accounts::limits::Limits;
 use accounts::table::Accounts;
 use accounts::way::Way;
-use std::process::Abort;
 use std::test::Fail;
 
 const MOST: u64 = 4_000_000_000_000_000_000;
-
-fn check_figures(rt: &impl Abort, f: Figures, balance: i64, held_in: u64, held_out: u64) {
-    assert_eq!(rt; f.balance, balance);
-    assert_eq!(rt; f.held_in, held_in);
-    assert_eq!(rt; f.held_out, held_out);
-}
 
 fn account(ceiling: u64, floor: u64) -> Result<Account, Fail> {
     some(Account::new(ceiling, floor))

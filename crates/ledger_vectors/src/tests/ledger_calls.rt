@@ -1,6 +1,5 @@
 // The ledger: what a reservation holds, what its end books, and what is refused.
-use super::support::some;
-use accounts::figures::Figures;
+use super::support::{check_figures, some};
 use accounts::hold::Hold;
 use accounts::limits::Limits;
 use ledger::ledger::Ledger;
@@ -31,10 +30,6 @@ fn reservation(amount_in: u64, amount_out: u64, expiry: u64) -> Reservation {
     }
 }
 
-fn figures(ledger: &Ledger, account: u8) -> Result<Figures, Fail> {
-    some(ledger.figures(account))
-}
-
 fn check_account(
     rt: &impl Abort,
     ledger: &Ledger,
@@ -43,10 +38,13 @@ fn check_account(
     held_in: u64,
     held_out: u64,
 ) -> Result<(), Fail> {
-    let f = figures(ledger, account)?;
-    assert_eq!(rt; f.balance, balance);
-    assert_eq!(rt; f.held_in, held_in);
-    assert_eq!(rt; f.held_out, held_out);
+    check_figures(
+        rt,
+        some(ledger.figures(account))?,
+        balance,
+        held_in,
+        held_out,
+    );
     Ok(())
 }
 
@@ -121,28 +119,26 @@ fn expired_by_the_time_of_the_ledger(rt: HostRuntime) -> Result<(), Fail> {
     Ok(())
 }
 
-// An account, a way, an amount, and the number of the refusal, 0 for none, in turn on one ledger.
-const SETTLEMENTS: [(u8, u8, u64, u8); 10] = [
-    (2, 0, 1, 2),
-    (2, 2, 1, 2),
-    (0, 2, 1, 6),
-    (0, 255, u64::MAX, 6),
-    (0, 0, 1001, 7),
-    (0, 1, 1001, 7),
-    (0, 1, 1 << 63, 7),
-    (0, 0, u64::MAX, 7),
-    (0, 0, 1000, 0),
-    (0, 1, 2000, 0),
+// An account, a way, an amount, and the number of the refusal, in turn on one ledger.
+const SETTLEMENTS: [(u8, u8, u64, Option<u8>); 10] = [
+    (2, 0, 1, Some(2)),
+    (2, 2, 1, Some(2)),
+    (0, 2, 1, Some(6)),
+    (0, 255, u64::MAX, Some(6)),
+    (0, 0, 1001, Some(7)),
+    (0, 1, 1001, Some(7)),
+    (0, 1, 1 << 63, Some(7)),
+    (0, 0, u64::MAX, Some(7)),
+    (0, 0, 1000, None),
+    (0, 1, 2000, None),
 ];
 
 #[test]
 fn settled_or_refused(rt: HostRuntime) -> Result<(), Fail> {
     let mut ledger = two()?;
     for (account, way, amount, number) in SETTLEMENTS {
-        match ledger.settle(account, way, amount) {
-            Ok(_) => assert_eq!(rt; number, 0),
-            Err(refused) => assert_eq!(rt; refused.number(), number),
-        }
+        let refused = ledger.settle(account, way, amount).err();
+        assert_eq!(rt; refused.map(|why| why.number()), number);
     }
     check_account(&rt, &ledger, 0, 1000, 0, 0)?;
     check_account(&rt, &ledger, 1, 0, 0, 0)?;

@@ -68,28 +68,25 @@ fn at_most_64(rt: HostRuntime) {
 }
 
 // The expiries of the numbers 1 to 3, a time, and the number that is due.
-const DUE: [([u64; 3], u64, u32); 7] = [
-    ([5, 6, 7], 4, 0),
-    ([5, 6, 7], 5, 1),
-    ([7, 6, 5], 5, 3),
-    ([7, 5, 5], 9, 2),
-    ([5, 5, 5], 5, 1),
-    ([6, 5, 6], 6, 2),
-    ([0, 0, 1], 0, 1),
+const DUE: [([u64; 3], u64, Option<u32>); 7] = [
+    ([5, 6, 7], 4, None),
+    ([5, 6, 7], 5, Some(1)),
+    ([7, 6, 5], 5, Some(3)),
+    ([7, 5, 5], 9, Some(2)),
+    ([5, 5, 5], 5, Some(1)),
+    ([6, 5, 6], 6, Some(2)),
+    ([0, 0, 1], 0, Some(1)),
 ];
 
 #[test]
-fn due_first(rt: HostRuntime) -> Result<(), Fail> {
+fn due_first(rt: HostRuntime) {
     assert!(rt; PendingTable::new().first_expired(u64::MAX).is_none());
     for (expiries, time, number) in DUE {
         let mut table = PendingTable::new();
-        table.add(row(1, expiries[0]));
-        table.add(row(2, expiries[1]));
-        table.add(row(3, expiries[2]));
-        match table.first_expired(time) {
-            Some(place) => assert_eq!(rt; some(table.at(place))?.number, number),
-            None => assert_eq!(rt; number, 0),
+        for (n, expiry) in (1..4).zip(expiries) {
+            table.add(row(n, expiry));
         }
+        let due = table.first_expired(time).and_then(|place| table.at(place));
+        assert_eq!(rt; due.map(|row| row.number), number);
     }
-    Ok(())
 }

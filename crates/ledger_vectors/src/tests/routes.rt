@@ -7,10 +7,7 @@ use std::process::Abort;
 use std::test::Fail;
 
 fn made(heap: Global, accounts: u8, routes: &[Route<'_>]) -> Result<Routes, Fail> {
-    match Routes::new(heap, accounts, routes) {
-        Ok(table) => Ok(table),
-        Err(_) => Err(Fail::new("not made")),
-    }
+    Routes::new(heap, accounts, routes).map_err(|_| Fail::new("not made"))
 }
 
 fn check_refused(
@@ -20,13 +17,15 @@ fn check_refused(
     routes: &[Route<'_>],
     case: &impl Display,
 ) -> Result<(), Fail> {
-    match Routes::new(heap, accounts, routes) {
-        Ok(_) => Err(Fail::new(format_args!("{case}: made"))),
-        Err(why) => {
-            assert_eq!(rt; why.number(), 8, "{case}");
-            Ok(())
-        }
-    }
+    let why = Routes::new(heap, accounts, routes)
+        .err()
+        .ok_or_else(|| Fail::new(format_args!("{case}: made")))?;
+    assert_eq!(rt; why.number(), 8, "{case}");
+    Ok(())
+}
+
+fn route(prefix: &[u8], account: u8) -> Route<'_> {
+    Route { prefix, account }
 }
 
 // Nested prefixes, neither the longest first nor the shortest.
@@ -69,27 +68,14 @@ fn the_longest_prefix_is_taken(rt: HostRuntime) -> Result<(), Fail> {
     assert_eq!(rt; table.count(), 4);
     assert_eq!(rt; table.accounts(), 4);
     for (i, (destination, account)) in FOUND.iter().enumerate() {
-        assert_eq!(rt; table.find(destination), *account, "{}", i);
+        assert_eq!(rt; table.find(destination), *account, "{i}");
     }
     Ok(())
 }
 
 #[test]
 fn the_empty_prefix_and_no_route(rt: HostRuntime) -> Result<(), Fail> {
-    let every = made(
-        rt.alloc(),
-        8,
-        &[
-            Route {
-                prefix: b"",
-                account: 7,
-            },
-            Route {
-                prefix: b"test",
-                account: 2,
-            },
-        ],
-    )?;
+    let every = made(rt.alloc(), 8, &[route(b"", 7), route(b"test", 2)])?;
     assert_eq!(rt; every.find(b"test.a"), Some(2));
     assert_eq!(rt; every.find(b"g.a"), Some(7));
     assert_eq!(rt; every.find(b""), Some(7));
@@ -105,11 +91,8 @@ static PREFIXES: [u8; 99] =
 
 fn routes(heap: Global) -> Result<Vec<Route<'static>>, AllocError> {
     let mut all = Vec::new(heap);
-    for i in 0..33usize {
-        all.push(Route {
-            prefix: &PREFIXES[3 * i..3 * i + 3],
-            account: (i % 8) as u8,
-        })?;
+    for (i, prefix) in PREFIXES.chunks_exact(3).enumerate() {
+        all.push(route(prefix, (i % 8) as u8))?;
     }
     Ok(all)
 }
@@ -131,27 +114,11 @@ static LONG: [u8; 65] = *b"g.aaaaaaaaaabbbbbbbbbbccccccccccddddddddddeeeeeeeeeef
 
 #[test]
 fn prefixes_of_sixty_four_bytes_at_most(rt: HostRuntime) -> Result<(), Fail> {
-    let table = made(
-        rt.alloc(),
-        8,
-        &[Route {
-            prefix: &LONG[0..64],
-            account: 5,
-        }],
-    )?;
+    let table = made(rt.alloc(), 8, &[route(&LONG[0..64], 5)])?;
     assert_eq!(rt; table.find(&LONG), Some(5));
     assert_eq!(rt; table.find(&LONG[0..64]), Some(5));
     assert_eq!(rt; table.find(&LONG[0..63]), None);
-    check_refused(
-        &rt,
-        rt.alloc(),
-        8,
-        &[Route {
-            prefix: &LONG,
-            account: 5,
-        }],
-        &"65 bytes",
-    )
+    check_refused(&rt, rt.alloc(), 8, &[route(&LONG, 5)], &"65 bytes")
 }
 
 const NO_PREFIXES: [&'static [u8]; 8] = [
@@ -161,42 +128,17 @@ const NO_PREFIXES: [&'static [u8]; 8] = [
 #[test]
 fn malformed_prefixes_are_refused(rt: HostRuntime) -> Result<(), Fail> {
     for (i, prefix) in NO_PREFIXES.iter().enumerate() {
-        check_refused(&rt, rt.alloc(), 8, &[Route { prefix, account: 0 }], &i)?;
+        check_refused(&rt, rt.alloc(), 8, &[route(prefix, 0)], &i)?;
     }
     Ok(())
 }
 
 #[test]
 fn accounts_at_their_bound(rt: HostRuntime) -> Result<(), Fail> {
-    let last = made(
-        rt.alloc(),
-        3,
-        &[Route {
-            prefix: b"g",
-            account: 2,
-        }],
-    )?;
+    let last = made(rt.alloc(), 3, &[route(b"g", 2)])?;
     assert_eq!(rt; last.find(b"g.a"), Some(2));
-    check_refused(
-        &rt,
-        rt.alloc(),
-        3,
-        &[Route {
-            prefix: b"g",
-            account: 3,
-        }],
-        &"one too high",
-    )?;
-    check_refused(
-        &rt,
-        rt.alloc(),
-        0,
-        &[Route {
-            prefix: b"g",
-            account: 0,
-        }],
-        &"no accounts",
-    )
+    check_refused(&rt, rt.alloc(), 3, &[route(b"g", 3)], &"one too high")?;
+    check_refused(&rt, rt.alloc(), 0, &[route(b"g", 0)], &"no accounts")
 }
 
 #[test]
@@ -205,16 +147,7 @@ fn no_prefix_twice(rt: HostRuntime) -> Result<(), Fail> {
         &rt,
         rt.alloc(),
         8,
-        &[
-            Route {
-                prefix: b"",
-                account: 0,
-            },
-            Route {
-                prefix: b"",
-                account: 1,
-            },
-        ],
+        &[route(b"", 0), route(b"", 1)],
         &"empty",
     )?;
     check_refused(

@@ -1,11 +1,10 @@
 // The calls of the table.
-ghost use Rattle.std.specs.Prelude.{◌≡◌, ◌-◌, ◌<◌, ◌≤◌, not, [], ◌∷◌, ◌++◌, length, take, if◌then◌else◌};
-ghost use Rattle.std.specs.List.{remove};
+ghost use Rattle.std.specs.Prelude.{◌≡◌, not, [], ◌∷◌, ◌++◌, if◌then◌else◌};
 ghost use Rattle.pending.specs.Rows.{is_pending, lookup, dropped, marked, FirstExpired};
 ghost use Rattle.pending.specs.Tables.{is_full, rows_of, place, row_at, DueAt, EarliestAt, SameUnless};
 
 use super::PendingTable;
-use crate::row::{Pending, ends_before};
+use crate::row::Pending;
 
 const UNUSED: Pending = Pending {
     number: 0,
@@ -27,6 +26,13 @@ impl PendingTable {
             places: [UNUSED; 64],
             len: 0,
         }
+    }
+
+    // The rows in use.
+    fn rows(&self) -> &[Pending]
+        ensures { result.now ≡ rows_of self.now }
+    {
+        &self.places[..self.len]
     }
 
     // Whether 64 are pending.
@@ -54,29 +60,20 @@ impl PendingTable {
     pub fn find(&self, number: u32) -> Option<usize>
         ensures { result ≡ place number (rows_of self.now) }
     {
-        for i in 0..self.len {
-            if self.places[i].number == number {
-                return Some(i);
-            }
-        }
-        None
+        self.rows().iter().position(|row| row.number == number)
     }
 
     // The row at a place.
     pub fn at(&self, place: usize) -> Option<Pending>
         ensures { result ≡ row_at (rows_of self.now) place }
     {
-        if place >= self.len {
-            return None;
-        }
-        Some(self.places[place])
+        self.rows().get(place).copied()
     }
 
     pub fn lookup(&self, number: u32) -> Option<Pending>
         ensures { result ≡ lookup number (rows_of self.now) }
     {
-        let place = self.find(number)?;
-        self.at(place)
+        self.at(self.find(number)?)
     }
 
     // Marks the row with a number as sent, and touches no other.
@@ -101,7 +98,7 @@ impl PendingTable {
         let Some(place) = self.find(number) else {
             return false;
         };
-        close_gap(&mut self.places, place, self.len);
+        self.places.copy_within(place + 1..self.len, place);
         self.len -= 1;
         true
     }
@@ -110,16 +107,11 @@ impl PendingTable {
     fn earliest(&self) -> Option<usize>
         ensures { EarliestAt (rows_of self.now) result }
     {
-        if self.len == 0 {
-            return None;
-        }
-        let mut best = 0;
-        for i in 1..self.len {
-            if ends_before(&self.places[i], &self.places[best]) {
-                best = i;
-            }
-        }
-        Some(best)
+        self.rows()
+            .iter()
+            .enumerate()
+            .min_by_key(|(_, row)| (row.expiry, row.number))
+            .map(|(place, _)| place)
     }
 
     // The place of the row that ends first, where its expiry has been reached.
@@ -128,20 +120,9 @@ impl PendingTable {
         ensures soonest { FirstExpired (rows_of self.now) time result }
     {
         let place = self.earliest()?;
-        if self.places[place].expiry > time {
+        if self.rows()[place].expiry > time {
             return None;
         }
         Some(place)
-    }
-}
-
-// Moves the rows behind a place one down.
-fn close_gap(rows: &mut [Pending], place: usize, count: usize)
-    requires in_use { place < count }
-    requires there { count ≤ length rows.old }
-    ensures { take (count - 1) rows.new ≡ remove (take count rows.old) place }
-{
-    for i in place + 1..count {
-        rows[i - 1] = rows[i];
     }
 }

@@ -12,11 +12,8 @@ impl Entry {
         requires { length route.prefix.now ≤ 64 }
         ensures { entry_route result ≡ given_route route.entry }
     {
-        let Some(prefix) = ShortBytes::new(route.prefix) else {
-            unreachable!();
-        };
         Entry {
-            prefix,
+            prefix: ShortBytes::new(route.prefix).unwrap(),
             account: route.account,
         }
     }

@@ -32,9 +32,7 @@ impl Routes {
         if !routes_fit(accounts, routes) {
             return Err(NotMade::Refused);
         }
-        let Ok(entries) = copied(heap, routes) else {
-            return Err(NotMade::NoMemory);
-        };
+        let entries = copied(heap, routes)?;
         Ok(Routes { entries, accounts })
     }
 

@@ -1,23 +1,13 @@
-use Rattle.std.proofs.Common.{set, is_some, Some, sym, refl, ap, ◌∙◌, w64, SFits, rules}
-use Rattle.std.proofs.option.Match.{when_true, when_false}
+use Rattle.std.proofs.Common.{set, Some, sym, ap, ◌∙◌, w64, SFits, rules}
+use Rattle.std.proofs.option.Match.{when_true}
 use Rattle.std.proofs.lemmas.Int.{to_z-of_z}
-use Rattle.std.proofs.lemmas.Bool.{true≢false, and_from, and_right, cond-false}
+use Rattle.std.proofs.lemmas.Bool.{true≢false, and_from}
 use Rattle.accounts.specs.declared.figures.Figures.{Figures}
 use Rattle.accounts.specs.Figures.{can_settle, settled}
 use Rattle.accounts.specs.Views.{figures_list}
 use Rattle.accounts.specs.Ways.{way_number}
-use Rattle.accounts.proofs.Answered.{some-when, none-when}
+use Rattle.accounts.proofs.Answered.{some-when}
 use Rattle.accounts.proofs.table.Accounts.settle.Goals as goal
-
-pub returns-in_err-after : goal.returns-in_err-after
-returns-in_err-after c =
-    let way = way_number c.args.way in
-    let refused = ap (can_settle way c.args.amount) (sym c.at.ensures) ∙ none-when _ _ c.in_err-after.ensures in
-    record {
-      answer = c.from_residual.ensures ∙ when_false _ _ (and_right _ _ refused);
-      figures = sym (cond-false _ _ _ (ap is_some c.from_residual.ensures));
-      unchanged = λ _. refl;
-    }
 
 pub returns : goal.returns
 returns c =

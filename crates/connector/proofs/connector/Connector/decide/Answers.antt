@@ -5,7 +5,7 @@ use Rattle.packet.specs.Values.{prepare_of}
 use Rattle.stage.specs.declared.transfer.Rejected.{Rejected}
 use Rattle.accounts.specs.Figures.{can_hold_out}
 use Rattle.ledger.specs.Books.{has_number, next_row}
-use Rattle.ledger.proofs.Same.{told-some}
+use Rattle.accounts.proofs.Answered.{some-when}
 use Rattle.protocol.specs.Messages.{onward}
 use Rattle.protocol.specs.Outcomes.{rejects, forwards}
 use Rattle.protocol.specs.Calls.{reservation_for, plain_reject}
@@ -48,7 +48,7 @@ returns-in_err-number g c =
 pub returns-then-is_full : goal.returns-then-is_full
 returns-then-is_full g c =
     let k = c.args.self.now in
-    let n = told-some (has_number (books_of k)) ((books_of k).last + 1) c.in_ok-number.number (sym c.in_ok-number.ensures.ok_part ∙ c.next_number.ensures) in
+    let n = some-when _ _ _ (sym c.in_ok-number.ensures.ok_part ∙ c.next_number.ensures) in
     record {
       value = λ q. by_parts _ _ q _ _ c.into.ensures ∙ full (g.S.Stage.rule k.stages) (set_up_of k) (books_of k) c.args.account q (prepare_of c.args.prepare.now) n.0 c.if-is_full.ensures;
       ready = tt;
@@ -57,7 +57,7 @@ returns-then-is_full g c =
 pub returns-then-prepare-time : goal.returns-then-prepare-time
 returns-then-prepare-time g c =
     let k = c.args.self.now in
-    let n = told-some (has_number (books_of k)) ((books_of k).last + 1) c.in_ok-number.number (sym c.in_ok-number.ensures.ok_part ∙ c.next_number.ensures) in
+    let n = some-when _ _ _ (sym c.in_ok-number.ensures.ok_part ∙ c.next_number.ensures) in
     record {
       value = λ q. by_parts _ _ q _ _ c.into-then-prepare-time.ensures ∙ late (g.S.Stage.rule k.stages) (set_up_of k) (books_of k) c.args.account q (prepare_of c.args.prepare.now) n.0 c.if-is_full.ensures (omega (arith, c.time-time.ensures));
       ready = tt;
@@ -68,7 +68,7 @@ returns-in_err-to g c =
     let k = c.args.self.now in
     let look = g.S.Stage.rule k.stages in
     let p = prepare_of c.args.prepare.now in
-    let n = told-some (has_number (books_of k)) ((books_of k).last + 1) c.in_ok-number.number (sym c.in_ok-number.ensures.ok_part ∙ c.next_number.ensures) in
+    let n = some-when _ _ _ (sym c.in_ok-number.ensures.ok_part ∙ c.next_number.ensures) in
     let m = missing-handed plainly c.find.result code.Unreachable _ c.from_residual-in_err-to.result (sym c.ok_or-2.ensures.value ∙ c.in_err-to.was) c.from_residual-in_err-to.ensures.1 in
     record {
       value = λ q.
@@ -83,7 +83,7 @@ returns-in_err-accounts g c =
     let k = c.args.self.now in
     let look = g.S.Stage.rule k.stages in
     let p = prepare_of c.args.prepare.now in
-    let n = told-some (has_number (books_of k)) ((books_of k).last + 1) c.in_ok-number.number (sym c.in_ok-number.ensures.ok_part ∙ c.next_number.ensures) in
+    let n = some-when _ _ _ (sym c.in_ok-number.ensures.ok_part ∙ c.next_number.ensures) in
     let m = missing-handed plainly c.new.result code.Unreachable _ c.from_residual-in_err-accounts.result (sym c.ok_or-3.ensures.value ∙ c.in_err-accounts.was) c.from_residual-in_err-accounts.ensures.1 in
     record {
       value = λ q.
@@ -97,7 +97,7 @@ returns-in_err-accounts g c =
 pub returns-then-not-can_hold_in : goal.returns-then-not-can_hold_in
 returns-then-not-can_hold_in g c =
     let k = c.args.self.now in
-    let n = told-some (has_number (books_of k)) ((books_of k).last + 1) c.in_ok-number.number (sym c.in_ok-number.ensures.ok_part ∙ c.next_number.ensures) in
+    let n = some-when _ _ _ (sym c.in_ok-number.ensures.ok_part ∙ c.next_number.ensures) in
     record {
       value = λ q.
           by_parts _ _ q _ _ c.into-then-not-can_hold_in.ensures
@@ -111,7 +111,7 @@ returns-in_err-passed g c =
     let k = c.args.self.now in
     let look = g.S.Stage.rule k.stages in
     let p = prepare_of c.args.prepare.now in
-    let n = told-some (has_number (books_of k)) ((books_of k).last + 1) c.in_ok-number.number (sym c.in_ok-number.ensures.ok_part ∙ c.next_number.ensures) in
+    let n = some-when _ _ _ (sym c.in_ok-number.ensures.ok_part ∙ c.next_number.ensures) in
     let r = c.in_err-passed.field-0.0 in
     let e = handed_on c.from_residual-in_err-passed.result r c.from_residual-in_err-passed.ensures.1 in
     record {
@@ -128,7 +128,7 @@ returns-then-not-can_hold_out g c =
     let k = c.args.self.now in
     let look = g.S.Stage.rule k.stages in
     let p = prepare_of c.args.prepare.now in
-    let n = told-some (has_number (books_of k)) ((books_of k).last + 1) c.in_ok-number.number (sym c.in_ok-number.ensures.ok_part ∙ c.next_number.ensures) in
+    let n = some-when _ _ _ (sym c.in_ok-number.ensures.ok_part ∙ c.next_number.ensures) in
     record {
       value = λ q.
           by_parts _ _ q _ _ c.into-then-not-can_hold_out.ensures
@@ -148,7 +148,7 @@ returns g c =
     let to = c.in_ok-to.to in
     let x = c.in_ok-accounts.accounts in
     let both = (subst (Pairs c.args.account c.in_ok-to.to) c.in_ok-accounts.ensures.ok_part c.new.ensures) in
-    let n = told-some (has_number (books_of k)) ((books_of k).last + 1) c.in_ok-number.number (sym c.in_ok-number.ensures.ok_part ∙ c.next_number.ensures) in
+    let n = some-when _ _ _ (sym c.in_ok-number.ensures.ok_part ∙ c.next_number.ensures) in
     record {
       value = λ q.
           ap (λ o. forwards (books_of k).time (next_row (books_of k) (reservation_for c.args.account q p o v)) (onward p v.amount v.expiry)) both.1

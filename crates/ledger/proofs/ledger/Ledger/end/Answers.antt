@@ -23,8 +23,8 @@ found-again b n r e = ap (λ m. lookup m b.rows) (lookup-number n b.rows r (sym 
 held-there : (l : Ledger) (n : ℕ) (r : Pending) → Some r ≡ lookup n (rows_of l.pending) → can_end (figures_list l.accounts) (hold_of r) ≡ true
 held-there l n r e = can-end r (view l) (found-again (view l) n r e) l.sound
 
-pub returns-then-not-end : goal.returns-then-not-end
-returns-then-not-end c =
+pub returns-then-not-end-clause-value : goal.returns-then-not-end-clause-value
+returns-then-not-end-clause-value c =
     let l = c.args.self.now in
     absurd (true≢false (sym (held-there l c.args.number c.in_ok-row.row c.in_ok-row.ensures) ∙ sym (c.if-not-end.ensures.answer ∙ ap (can_end (figures_list l.accounts)) c.hold_of.ensures)))
 
@@ -45,11 +45,6 @@ invariant_of-self-2 c =
           (sound-closed c.args.fulfilled r (view l) (found-again (view l) c.args.number r c.in_ok-row.ensures) l.sound);
     }
 
-pub returns : goal.returns
-returns c =
-    let l = c.args.self.now in
-    record {
-      value = c.in_ok-row.ensures;
-      books = ended_so l c.args.number c.args.fulfilled c.in_ok-row.row c.hold_of.result _ _ c.in_ok-row.ensures c.hold_of.ensures c.remove.ensures.rows c.if-not-end.ensures.figures;
-      unchanged = tt;
-    }
+pub returns-clause-books : goal.returns-clause-books
+returns-clause-books c =
+    ended_so c.args.self.now c.args.number c.args.fulfilled c.in_ok-row.row c.hold_of.result _ _ c.in_ok-row.ensures c.hold_of.ensures c.remove.ensures.rows c.if-not-end.ensures.figures

@@ -4,7 +4,7 @@ use Rattle.std.proofs.lemmas.List.{get_or-take}
 use Rattle.pending.specs.declared.table.PendingTable.{PendingTable}
 use Rattle.pending.specs.Rows.{vacant, as_sent, marked}
 use Rattle.pending.specs.Tables.{rows_of, place}
-use Rattle.pending.proofs.Found.{length-rows, found, Found, absent-from}
+use Rattle.pending.proofs.Found.{length-rows, found, Found, absent}
 use Rattle.pending.proofs.table.PendingTable.mark.Goals as goal
 
 rows-marked : (t : PendingTable) (n i : ℕ) → Found n (rows_of t) i → take t.len (set t.places i (as_sent (get_or t.places i vacant))) ≡ marked n (rows_of t)
@@ -22,7 +22,7 @@ below t n i e =
 pub returns-in_default : goal.returns-in_default
 returns-in_default c =
     let t = c.args.self.now in
-    let none = absent-from 0 c.args.number (rows_of t) (sym c.in_default.ensures) in
+    let none = absent c.args.number (rows_of t) (sym c.in_default.ensures) in
     record { value = sym (ap is_some none.0); rows = sym none.2; unchanged = refl }
 
 pub offset_bounds-self-place : goal.offset_bounds-self-place
