@@ -11,7 +11,8 @@ pub struct Forwarded {
     pub duty: SendDuty,
 }
 
-// Forwarded, or rejected: then the buffer has the answer to the sender.
+// Forwarded, or rejected: then the buffer has the answer to the sender. No Result of its own, since that answer is no
+// error: what a call refuses is.
 pub enum Prepared {
     Forwarded(Forwarded),
     Rejected(Rejected),

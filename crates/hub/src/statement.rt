@@ -80,7 +80,11 @@ impl fmt::Display for Again<'_> {
         for line in self.bytes.chunks(LINE) {
             writeln!(f, "  {}", Hex(line))?;
         }
-        let equal = if self.bytes == self.input { "yes" } else { "no" };
+        let equal = if self.bytes == self.input {
+            "yes"
+        } else {
+            "no"
+        };
         writeln!(f, "{} bytes; equal to the input: {equal}", self.bytes.len())
     }
 }

@@ -10,6 +10,7 @@ pub enum NotSettled {
 }
 
 impl NotSettled {
+    // The number by which the host is told.
     pub fn number(&self) -> u8
         ensures { result ≡ refusal_number self.now }
     {

@@ -36,7 +36,7 @@ pub enum Packet<'a> {
     Reject(Reject<'a>),
 }
 
-// What may come back for a Prepare.
+// What may come back for a Prepare. No Result, since a Reject is a packet as a Fulfill is.
 #[derive(Clone, Copy, Debug, PartialEq, Eq)]
 pub enum Answer<'a> {
     Fulfill(Fulfill<'a>),

@@ -26,6 +26,7 @@ pub enum Refusal {
 }
 
 impl Refusal {
+    // The number by which the host is told. By a match, since one of the refusals carries a fault.
     pub fn number(&self) -> u8
         ensures { result ≡ refusal_number self.now }
     {

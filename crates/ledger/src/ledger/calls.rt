@@ -149,7 +149,8 @@ impl Ledger {
         Some(row)
     }
 
-    // Books a settlement: the way 0, they paid us, lowers the balance, and 1, we paid them, raises it.
+    // Books a settlement: the way 0, they paid us, lowers the balance, and 1, we paid them, raises it. The host says the
+    // way by its number, and is told of one that there is not.
     pub fn settle(&mut self, account: u8, way: u8, amount: u64) -> Result<i64, NotSettled>
         ensures value { result ≡ settlement (view self.old) account way amount }
         ensures books { view self.new ≡ settled_books result account (view self.old) }
