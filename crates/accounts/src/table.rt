@@ -1,4 +1,5 @@
-// The accounts that are set up, one to eight, each as plain figures that keep both limits.
+// The accounts that are set up, one to eight, each as plain figures that keep both limits: a fixed array and a count,
+// since no call allocates.
 ghost use Rattle.std.specs.Prelude.{◌≡◌, ℕ, ◌≤◌, length, take, slice_index_or};
 ghost use Rattle.accounts.specs.Figures.{Keeps, unset};
 

@@ -1,4 +1,5 @@
-// A stage of an operator's own, complete: a layer over any stage that turns away amounts below a least one.
+// A stage of an operator's own, complete: a layer over any stage that turns away amounts below a least one. It is written
+// out to show the interface's four functions; `layers::layer::Layer` does with one.
 #![tactic(auto)]
 
 ghost use Rattle.std.specs.Prelude.{◌≡◌};

@@ -23,6 +23,7 @@ pub struct StackFigures {
 pub fn stack(figures: StackFigures) -> Result<Stack, NotMade<StackFigures>>
     ensures { StackMade figures result }
 {
+    // the error of each part is of another type, and for all of them the figures come back
     let refused = NotMade { passed_in: figures };
     let Ok(timed) = Expiry::new(figures.margin, figures.hold, End::new()) else {
         return Err(refused);

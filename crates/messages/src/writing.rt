@@ -1,4 +1,6 @@
 // What is written into the buffer of a call, and how long it is. The buffer takes any packet, so nothing here is refused.
+// That is asked, and no type of its own: a struct round a `&mut` would want a clause of each function that it stays over
+// the same buffer, one for each that it saves.
 ghost use Rattle.std.specs.Prelude.{◌≡◌, ◌≤◌, ◌++◌, length, if◌then◌else◌, codes};
 ghost use Rattle.std.specs.Str.{bytes_eq};
 ghost use Rattle.wire.specs.Codes.{code_bytes};

@@ -35,6 +35,7 @@ fn code<'a>(reader: &mut Reader<'a>) -> Result<&'a [u8], Fault>
     is_code(bytes).then_some(bytes).ok_or(bad)
 }
 
+// This field and the next differ in their test: handed in as a closure, each would still be spelled by its caller.
 fn destination<'a>(reader: &mut Reader<'a>) -> Result<&'a [u8], Fault>
     ensures { Reads (λ x. x.now) result (read_destination (standing reader.old)) (standing reader.new) }
 {

@@ -1,4 +1,5 @@
-// The table of what is pending: the first `len` places are in use, and stay in the order in which they were added.
+// The table of what is pending: the first `len` places are in use, and stay in the order in which they were added. A
+// fixed array, since no call allocates.
 ghost use Rattle.std.specs.Prelude.{◌≡◌, ◌≤◌, length};
 
 use crate::row::Pending;

@@ -1,4 +1,5 @@
-// The numbers that are open, at most 64, in the order taken and none twice.
+// The numbers that are open, at most 64, in the order taken and none twice: a fixed array and a count, since no call
+// allocates.
 ghost use Rattle.std.specs.Prelude.{◌≡◌, ◌<◌, ◌≤◌, true, false, [], ◌∷◌, ◌++◌, length, take, ◌==◌, position};
 ghost use Rattle.stage.specs.Numbers.{among, none_twice, without};
 

@@ -1,4 +1,4 @@
-// Whether two parts of memory hold the same bytes.
+// Whether two parts of memory hold the same bytes: `==`, with what it decides as a clause that a promise names.
 ghost use Rattle.std.specs.Prelude.{◌≡◌, Decides};
 ghost use Rattle.std.specs.Str.{bytes_eq};
 

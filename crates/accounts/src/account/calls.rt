@@ -1,4 +1,5 @@
-// How an account is made and changed. A call takes the account and gives the one after it; where it gives none, the
+// What comes in and what goes out mirror each other, by another field, another limit and another sign, so each has its
+// own function. How an account is made and changed. A call takes the account and gives the one after it; where it gives none, the
 // caller's own is as it was.
 ghost use Rattle.std.specs.Prelude.{◌≡◌, ◌<◌, ◌^◌, cond, pos};
 ghost use Rattle.std.specs.Bool.{then_some};

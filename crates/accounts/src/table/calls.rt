@@ -35,6 +35,7 @@ impl Accounts {
             return None;
         }
         let mut rows = [UNSET; MOST_ACCOUNTS];
+        // by index: of what is written through `iter_mut` a proof knows the length alone
         for (i, limit) in limits.iter().enumerate() {
             rows[i] = Account::new(limit.ceiling, limit.floor)?.figures();
         }
