@@ -34,12 +34,9 @@ impl<'a> Reader<'a> {
     fn next_bytes(&mut self, n: usize, cut: Fault) -> Result<&'a [u8], Fault>
         ensures { Reads (λ x. x.now) result (next_bytes cut n (standing self.old)) (standing self.new) }
     {
-        if n > self.left() {
-            return Err(cut);
-        }
-        let start = self.place;
+        let bytes = self.bytes[self.place..].get(..n).ok_or(cut)?;
         self.place += n;
-        Ok(&self.bytes[start..start + n])
+        Ok(bytes)
     }
 
     // A field of n bytes with no determinant.
@@ -114,7 +111,7 @@ impl<'a> Reader<'a> {
         ensures value { result ≡ begins_with byte (standing self.old).rest }
         ensures place { standing self.new ≡ (if result then forward 1 (standing self.old) else standing self.old) }
     {
-        if self.place == self.bytes.len() || self.bytes[self.place] != byte {
+        if self.bytes.get(self.place) != Some(&byte) {
             return false;
         }
         self.place += 1;

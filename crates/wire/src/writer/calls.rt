@@ -47,7 +47,8 @@ impl<'a> Writer<'a> {
         } else if n < 0x100 {
             self.put(&[0x81, n as u8]);
         } else {
-            self.put(&[0x82, (n / 256) as u8, (n % 256) as u8]);
+            let [high, low] = (n as u16).to_be_bytes();
+            self.put(&[0x82, high, low]);
         }
     }
 
