@@ -9,7 +9,7 @@ pub enum Way {
 }
 
 // A number that no way has.
-#[derive(Clone, Copy)]
+#[derive(Clone, Copy, Debug, PartialEq, Eq)]
 pub struct UnknownWay;
 
 // 0 is TheyPaid, and 1 is WePaid.

@@ -36,7 +36,7 @@ pub(crate) fn year_and_day(days: u32) -> (u32, u32)
     ensures value { result ≡ year_and_day days }
     ensures within { result.1 < year_length result.0 }
 {
-    // the estimate is never past the year, so this goes up, and at most twice
+    // the estimate is never past the year, so this goes up, and at most twice; no list stands behind it
     let mut year = estimated_year(days);
     while days_before_year(year + 1) <= days {
         year += 1;

@@ -10,7 +10,8 @@ use stage::end::End;
 
 pub type Stack = Maximum<Rate<Expiry<End>>>;
 
-// What an operator sets: for each account its greatest amount and its price, and the two times in milliseconds.
+// What an operator sets: for each account its greatest amount and its price, each list for a layer of its own, and the two
+// times in milliseconds.
 #[derive(Clone, Copy)]
 pub struct StackFigures {
     pub most: [u64; 8],

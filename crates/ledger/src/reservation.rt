@@ -34,7 +34,8 @@ impl Reservation {
     }
 }
 
-// What a row holds at its two accounts.
+// What a row holds at its two accounts. A function, since `From` of two types of other crates cannot stand here; and a row
+// has no hold in it, since what is pending knows no accounts.
 pub fn hold_of(row: &Pending) -> Hold
     ensures { result ≡ hold_of row.now }
 {

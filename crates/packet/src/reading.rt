@@ -91,6 +91,7 @@ fn parse_answer(bytes: &[u8]) -> Result<Answer<'_>, Fault>
     }
 }
 
+// The three readers ask for different kinds and give different types, each in a line of its own.
 // A packet of any kind, or the first fault.
 pub fn read_packet(bytes: &[u8]) -> Result<Packet<'_>, Fault>
     ensures value { valued packet_of result ≡ read_as any_kind bytes.now }

@@ -28,7 +28,7 @@ fn has_prefix(routes: &[Route<'_>], prefix: &[u8]) -> bool
     routes.iter().any(|route| route.prefix == prefix)
 }
 
-// Each prefix is looked for among the routes behind it.
+// Each prefix is looked for among the routes behind it, which a chain over the routes alone does not have.
 fn no_prefix_twice(routes: &[Route<'_>]) -> bool
     ensures { result ≡ no_prefix_twice (given_list routes.now) }
 {

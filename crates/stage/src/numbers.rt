@@ -1,5 +1,5 @@
-// The numbers that are open, at most 64, in the order taken and none twice: a fixed array and a count, since no call
-// allocates.
+// The numbers that are open, at most 64, in the order taken and none twice. A fixed array and a count: no call
+// allocates, and a value is `Copy`, which the kit's `ArrayVec` is not.
 ghost use Rattle.std.specs.Prelude.{◌≡◌, ◌<◌, ◌≤◌, true, false, [], ◌∷◌, ◌++◌, length, take, ◌==◌, position};
 ghost use Rattle.stage.specs.Numbers.{among, none_twice, without};
 

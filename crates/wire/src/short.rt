@@ -1,4 +1,4 @@
-// A few bytes that a value owns: the first `length` of a fixed array, so that nothing is allocated.
+// A few bytes that a value owns: the first `length` of a fixed array, so that nothing is allocated, and the value is `Copy`.
 ghost use Rattle.std.specs.Prelude.{◌≡◌, ◌≤◌, length, take, nat_le};
 ghost use Rattle.std.specs.Bool.{then_some};
 

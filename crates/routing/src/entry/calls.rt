@@ -41,9 +41,6 @@ impl Entry {
     pub(crate) fn is_longer_than(&self, best: Option<&Entry>) -> bool
         ensures { result ≡ longer_than (best_route best.entry) (entry_route self.now) }
     {
-        match best {
-            Some(best) => best.prefix().len() < self.prefix().len(),
-            None => true,
-        }
+        best.is_none_or(|best| best.prefix().len() < self.prefix().len())
     }
 }

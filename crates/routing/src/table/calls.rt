@@ -36,7 +36,8 @@ impl Routes {
         Ok(Routes { entries, accounts })
     }
 
-    // The entry with the longest prefix among those with which a destination begins.
+    // The entry with the longest prefix among those with which a destination begins: the first of them, where `max_by_key`
+    // takes the last.
     fn best(&self, destination: &[u8]) -> Option<&Entry>
         ensures { best_route result ≡ best_of destination.now None (listed self.now) }
     {
@@ -56,8 +57,7 @@ impl Routes {
         ensures only { OneOfALength (listed self.now) destination.now }
         ensures known { Known self.now.accounts result }
     {
-        let entry = self.best(destination)?;
-        Some(entry.account())
+        self.best(destination).map(Entry::account)
     }
 
     // How many routes there are.
