@@ -19,6 +19,7 @@ use Rattle.protocol.specs.Outcomes.{SetUp, Reply, refused, Outcome, refuses, mar
 use Rattle.protocol.specs.Calls
 use Rattle.protocol.specs.Calls.{room_needed, time_at, by_prepare, prepare_outcome, sent_outcome, unsent_outcome, answer_outcome, tick_outcome}
 use Rattle.protocol.specs.Turns.{TurnsOut}
+use Rattle.connector.specs.Checks.{NoneUnsent}
 
 module _ {St : Type 0} (held : St → List ℕ) where
   -- a call that turns out so turns out as what it comes to
@@ -43,6 +44,10 @@ pub sent-again : (b : Books) (n : ℕ) (r : Pending) → Some r ≡ lookup n b.r
 unfolding sent_outcome
 sent-again b n r e t = ap (λ o. Calls.if_unsent o (λ r. marks n)) (sym e) ∙ ap (λ x. cond x (refuses refusal.NotPending) (marks n)) t
 
+pub sent-not : (b : Books) (n : ℕ) (o : Option Pending) → o ≡ lookup n b.rows → NoneUnsent o → sent_outcome b n ≡ refuses refusal.NotPending
+sent-not b n None e h = sent-none b n e
+sent-not b n (Some r) e h = sent-again b n r e h
+
 pub sent-marks : (b : Books) (n : ℕ) (r : Pending) → Some r ≡ lookup n b.rows → r.sent ≡ false → sent_outcome b n ≡ marks n
 unfolding sent_outcome
 sent-marks b n r e t = ap (λ o. Calls.if_unsent o (λ r. marks n)) (sym e) ∙ ap (λ x. cond x (refuses refusal.NotPending) (marks n)) t
@@ -66,6 +71,10 @@ pub unsent-again : (b : Books) (room n : ℕ) (r : Pending) → room_needed ≤ 
 unfolding unsent_outcome
 unsent-again b room n r l e t =
     roomy room _ (unsent-of b (lookup n b.rows)) l ∙ ap (unsent-of b) (sym e) ∙ ap (λ x. cond x (refuses refusal.NotPending) (ends b.time r (ours code.PeerUnreachable))) t
+
+pub unsent-not : (b : Books) (room n : ℕ) (o : Option Pending) → room_needed ≤ room → o ≡ lookup n b.rows → NoneUnsent o → unsent_outcome b room n ≡ refuses refusal.NotPending
+unsent-not b room n None l e h = unsent-none b room n l e
+unsent-not b room n (Some r) l e h = unsent-again b room n r l e h
 
 pub unsent-ends : (b : Books) (room n : ℕ) (r : Pending) → room_needed ≤ room → Some r ≡ lookup n b.rows → r.sent ≡ false → unsent_outcome b room n ≡ ends b.time r (ours code.PeerUnreachable)
 unfolding unsent_outcome

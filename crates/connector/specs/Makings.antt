@@ -19,12 +19,13 @@ use Rattle.connector.specs.declared.set_up.Unmade.{Unmade}
 use Rattle.connector.specs.Views.{books_of, set_up_of}
 
 -- accounts, routes and address in bounds, and a stack that holds nothing open
-abbrev pub parts_fit : SetUp → Bool → Bool
-parts_fit s idle =
-    set_up_fits s.accounts.now && own_fits s.address.now && idle && routes_fit (length s.accounts.now) (given_list s.routes.now)
-
 abbrev pub all_fits : SetUp → List ℕ → Bool
-all_fits s open-now = parts_fit s (is_empty open-now)
+all_fits s open-now =
+    set_up_fits s.accounts.now && own_fits s.address.now && is_empty open-now && routes_fit (length s.accounts.now) (given_list s.routes.now)
+
+-- the same but for the stack
+abbrev pub parts_fit : SetUp → Bool
+parts_fit s = set_up_fits s.accounts.now && own_fits s.address.now && routes_fit (length s.accounts.now) (given_list s.routes.now)
 
 -- refused where something does not fit; else there was no memory
 abbrev pub because : NotMade → Bool
@@ -32,15 +33,15 @@ because Refused = false
 because NoMemory = true
 
 -- the ledger, the routes and the address of a set-up that fits
-pub record Parts (s : SetUp) (idle : Bool) (l : Ledger) (r : Routes) (o : OwnAddress) : Type 0 where
-  pub fits : parts_fit s idle ≡ true
+pub record Parts (s : SetUp) (l : Ledger) (r : Routes) (o : OwnAddress) : Type 0 where
+  pub fits : parts_fit s ≡ true
   pub books : view l ≡ new_books s.accounts.now
   pub own : own_bytes o ≡ s.address.now
   pub routes : listed r ≡ given_list s.routes.now
 
-abbrev pub PartsMade : SetUp → Bool → Result (Ledger × Routes × OwnAddress) NotMade → Type 0
-PartsMade s idle (Ok p) = Parts s idle p.0 p.1 p.2
-PartsMade s idle (Err why) = parts_fit s idle ≡ because why
+abbrev pub PartsMade : SetUp → Result (Ledger × Routes × OwnAddress) NotMade → Type 0
+PartsMade s (Ok p) = Parts s p.0 p.1 p.2
+PartsMade s (Err why) = parts_fit s ≡ because why
 
 module _ {S H : Type 0} (held : S → List ℕ) where
   -- a new connector: its time and its last number are 0, its accounts new, and nothing is pending

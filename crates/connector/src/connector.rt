@@ -6,6 +6,7 @@ use routing::table::Routes;
 use stage::interface::Stage;
 
 pub mod answers;
+mod checks;
 pub mod ends;
 pub mod making;
 pub mod marks;

@@ -13,14 +13,13 @@ ghost use Rattle.connector.specs.Replies.{end_reply};
 ghost use Rattle.connector.specs.Views.{books_of, set_up_of, SetUpStays, SameUnless};
 
 use super::Connector;
+use super::checks::{check_room, check_time};
 use crate::ending::Ending;
-use calendar::LAST_INSTANT;
 use condition::fulfilment::fulfils;
 use condition::interface::ConditionHash;
 use messages::writing::pass_on;
 use packet::reading::read_answer;
 use packet::value::Answer;
-use packet_writer::writing::LONGEST_PACKET;
 use pending::row::Pending;
 use protocol::ended::Ended;
 use protocol::refusal::Refusal;
@@ -58,15 +57,9 @@ impl<S: Stage, H: ConditionHash> Connector<S, H> {
         ensures kept { SetUpStays self.old self.new }
         ensures unchanged { SameUnless (is_ok result) self.old self.new }
     {
-        if buffer.len() < LONGEST_PACKET {
-            return Err(Refusal::ShortBuffer);
-        }
-        if !self.ledger.has_account(account) {
-            return Err(Refusal::NoAccount);
-        }
-        if time > LAST_INSTANT {
-            return Err(Refusal::TimeOutOfRange);
-        }
+        check_room(buffer)?;
+        self.check_account(account)?;
+        check_time(time)?;
         let row = self.ledger.lookup(number).ok_or(Refusal::NotPending)?;
         if !is_theirs(&row, account) {
             return Err(Refusal::NotPending);

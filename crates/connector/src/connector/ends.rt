@@ -10,11 +10,10 @@ ghost use Rattle.connector.specs.Replies.{end_reply, tick_reply};
 ghost use Rattle.connector.specs.Views.{books_of, set_up_of, SetUpStays, SameUnless};
 
 use super::Connector;
+use super::checks::{check_room, check_time};
 use crate::duty::SendDuty;
-use calendar::LAST_INSTANT;
 use condition::interface::ConditionHash;
 use messages::writing::write_our_reject;
-use packet_writer::writing::LONGEST_PACKET;
 use pending::row::Pending;
 use protocol::ended::Ended;
 use protocol::refusal::Refusal;
@@ -61,13 +60,8 @@ impl<S: Stage, H: ConditionHash> Connector<S, H> {
         ensures unchanged { SameUnless (is_ok result) self.old self.new }
     {
         let number = duty.spend();
-        if buffer.len() < LONGEST_PACKET {
-            return Err(Refusal::ShortBuffer);
-        }
-        let row = self.ledger.lookup(number).ok_or(Refusal::NotPending)?;
-        if row.sent {
-            return Err(Refusal::NotPending);
-        }
+        check_room(buffer)?;
+        let row = self.unsent_row(number)?;
         self.end(&row, false);
         let code = RejectCode::PeerUnreachable;
         Ok(self.reject(row.sender, row.request, code.into(), buffer))
@@ -79,12 +73,8 @@ impl<S: Stage, H: ConditionHash> Connector<S, H> {
         ensures kept { SetUpStays self.old self.new }
         ensures unchanged { SameUnless (is_ok result) self.old self.new }
     {
-        if buffer.len() < LONGEST_PACKET {
-            return Err(Refusal::ShortBuffer);
-        }
-        if time > LAST_INSTANT {
-            return Err(Refusal::TimeOutOfRange);
-        }
+        check_room(buffer)?;
+        check_time(time)?;
         self.ledger.advance(time);
         let Some(row) = self.ledger.first_expired() else {
             return Ok(None);

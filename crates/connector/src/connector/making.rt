@@ -21,7 +21,11 @@ impl<S: Stage, H: ConditionHash> Connector<S, H> {
     ) -> Result<Connector<S, H>, Unmade<S, H>>
         ensures { Made S.held set_up.entry stages hash result }
     {
-        match parts(heap, set_up, stages.idle()) {
+        if !stages.idle() {
+            let why = NotMade::Refused;
+            return Err(Unmade { why, stages, hash });
+        }
+        match parts(heap, set_up) {
             Err(why) => Err(Unmade { why, stages, hash }),
             Ok((ledger, routes, own)) => Ok(Connector {
                 ledger,
@@ -34,19 +38,12 @@ impl<S: Stage, H: ConditionHash> Connector<S, H> {
     }
 }
 
-// What a connector has beside its stack, which is to be idle, and its hash.
-fn parts(
-    heap: Global,
-    set_up: SetUp<'_>,
-    idle: bool,
-) -> Result<(Ledger, Routes, OwnAddress), NotMade>
-    ensures { PartsMade set_up.entry idle result }
+// What a connector has beside its stack and its hash.
+fn parts(heap: Global, set_up: SetUp<'_>) -> Result<(Ledger, Routes, OwnAddress), NotMade>
+    ensures { PartsMade set_up.entry result }
 {
     let ledger = Ledger::new(set_up.accounts).ok_or(NotMade::Refused)?;
     let own = OwnAddress::new(set_up.address).ok_or(NotMade::Refused)?;
-    if !idle {
-        return Err(NotMade::Refused);
-    }
     let routes = Routes::new(heap, set_up.accounts.len() as u8, set_up.routes)?;
     Ok((ledger, routes, own))
 }

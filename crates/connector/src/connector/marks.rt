@@ -18,10 +18,7 @@ impl<S: Stage, H: ConditionHash> Connector<S, H> {
         ensures unchanged { SameUnless (is_ok result) self.old self.new }
     {
         let number = duty.spend();
-        let row = self.ledger.lookup(number).ok_or(Refusal::NotPending)?;
-        if row.sent {
-            return Err(Refusal::NotPending);
-        }
+        self.unsent_row(number)?;
         self.ledger.mark(number);
         Ok(())
     }

@@ -12,16 +12,15 @@ ghost use Rattle.connector.specs.Decisions.{goes_to, going, decided, Ready};
 ghost use Rattle.connector.specs.Views.{books_of, set_up_of, SetUpStays, SameUnless};
 
 use super::Connector;
+use super::checks::{check_room, check_time};
 use crate::duty::SendDuty;
 use crate::prepared::{Forwarded, Onward, Prepared};
 use accounts::hold::Hold;
-use calendar::LAST_INSTANT;
 use condition::interface::ConditionHash;
 use ledger::reservation::Reservation;
 use messages::writing::write_onward;
 use packet::reading::read_prepare;
 use packet::value::Prepare;
-use packet_writer::writing::LONGEST_PACKET;
 use protocol::ended::Rejected as TurnedAway;
 use protocol::refusal::Refusal;
 use stage::accounts::AccountPair;
@@ -43,15 +42,9 @@ impl<S: Stage, H: ConditionHash> Connector<S, H> {
         ensures kept { SetUpStays self.old self.new }
         ensures unchanged { SameUnless (is_ok result) self.old self.new }
     {
-        if buffer.len() < LONGEST_PACKET {
-            return Err(Refusal::ShortBuffer);
-        }
-        if !self.ledger.has_account(account) {
-            return Err(Refusal::NoAccount);
-        }
-        if time > LAST_INSTANT {
-            return Err(Refusal::TimeOutOfRange);
-        }
+        check_room(buffer)?;
+        self.check_account(account)?;
+        check_time(time)?;
         self.ledger.advance(time);
         let prepare = match read_prepare(bytes) {
             Ok(prepare) => prepare,

@@ -11,31 +11,32 @@ use Rattle.protocol.specs.declared.refusal.Refusal.{Refusal}
 use Rattle.protocol.specs.declared.refusal.Refusal.TheVariants.{NotPending, UnreadableAnswer}
 use Rattle.connector.specs.Replies.{end_reply}
 use Rattle.connector.proofs.Handed.{handed_on, missing-handed}
+use Rattle.connector.proofs.Handed.{handed_on}
 use Rattle.connector.proofs.Outcomes.{turned_so, refused_as, answer-short, answer-nobody, answer-never, answer-by, not-theirs, theirs}
 use Rattle.connector.proofs.Endings.{answer-read, packet-short}
 use Rattle.connector.proofs.connector.Connector.answer.Goals as goal
 
-pub returns-then-buffer-lt-LONGEST_PACKET-clause-does : goal.returns-then-buffer-lt-LONGEST_PACKET-clause-does
-returns-then-buffer-lt-LONGEST_PACKET-clause-does g c =
-    let d = g.H.ConditionHash.digest_of in
-    refused_as g.S.Stage.held refl (answer-short d (books_of c.args.self.now) _ c.args.account c.args.number c.args.time _ (omega arith))
+pub returns-in_err-check_room-clause-does : goal.returns-in_err-check_room-clause-does
+returns-in_err-check_room-clause-does g c =
+    refused_as g.S.Stage.held (ap end_reply (handed_on _ c.in_err-check_room.field-0.0 c.from_residual.ensures.1 ∙ ap Err c.in_err-check_room.ensures.0))
+    (answer-short g.H.ConditionHash.digest_of (books_of c.args.self.now) _ c.args.account c.args.number c.args.time _ (omega (arith, c.in_err-check_room.ensures.1)))
 
-pub returns-then-not-has_account-clause-does : goal.returns-then-not-has_account-clause-does
-returns-then-not-has_account-clause-does g c =
-    let d = g.H.ConditionHash.digest_of in
-    refused_as g.S.Stage.held refl (answer-nobody d (books_of c.args.self.now) _ c.args.account c.args.number c.args.time _ (omega arith) c.if-not-has_account.ensures)
+pub returns-in_err-check_account-clause-does : goal.returns-in_err-check_account-clause-does
+returns-in_err-check_account-clause-does g c =
+    refused_as g.S.Stage.held (ap end_reply (handed_on _ c.in_err-check_account.field-0.0 c.from_residual-in_err-check_account.ensures.1 ∙ ap Err c.in_err-check_account.ensures.0))
+    (answer-nobody g.H.ConditionHash.digest_of (books_of c.args.self.now) _ c.args.account c.args.number c.args.time _ (omega arith) (sym c.in_err-check_account.ensures.1))
 
-pub returns-then-time-gt-LAST_INSTANT-clause-does : goal.returns-then-time-gt-LAST_INSTANT-clause-does
-returns-then-time-gt-LAST_INSTANT-clause-does g c =
-    let d = g.H.ConditionHash.digest_of in
-    refused_as g.S.Stage.held refl (answer-never d (books_of c.args.self.now) _ c.args.account c.args.number c.args.time _ (omega arith) c.if-not-has_account.ensures (omega arith))
+pub returns-in_err-check_time-clause-does : goal.returns-in_err-check_time-clause-does
+returns-in_err-check_time-clause-does g c =
+    refused_as g.S.Stage.held (ap end_reply (handed_on _ c.in_err-check_time.field-0.0 c.from_residual-in_err-check_time.ensures.1 ∙ ap Err c.in_err-check_time.ensures.0))
+    (answer-never g.H.ConditionHash.digest_of (books_of c.args.self.now) _ c.args.account c.args.number c.args.time _ (omega arith) (sym c.in_ok-check_account.ensures) (omega (arith, c.in_err-check_time.ensures.1)))
 
 pub returns-in_err-row-clause-does : goal.returns-in_err-row-clause-does
 returns-in_err-row-clause-does g c =
     let d = g.H.ConditionHash.digest_of in
-    let m = missing-handed (λ (e : Refusal). e) c.lookup.result NotPending _ c.from_residual.result (sym c.ok_or.ensures.value ∙ c.in_err-row.was) c.from_residual.ensures.1 in
+    let m = missing-handed (λ (e : Refusal). e) c.lookup.result NotPending _ c.from_residual-in_err-row.result (sym c.ok_or.ensures.value ∙ c.in_err-row.was) c.from_residual-in_err-row.ensures.1 in
     refused_as g.S.Stage.held (ap end_reply m.1)
-    (answer-by d (books_of c.args.self.now) _ c.args.account c.args.number c.args.time _ _ (omega arith) c.if-not-has_account.ensures (omega arith) (m.0 ∙ c.lookup.ensures))
+    (answer-by d (books_of c.args.self.now) _ c.args.account c.args.number c.args.time _ _ (omega arith) (sym c.in_ok-check_account.ensures) (omega arith) (m.0 ∙ c.lookup.ensures))
 
 pub returns-then-not-is_theirs-clause-does : goal.returns-then-not-is_theirs-clause-does
 returns-then-not-is_theirs-clause-does g c =
@@ -43,7 +44,7 @@ returns-then-not-is_theirs-clause-does g c =
     let d = g.H.ConditionHash.digest_of in
     let found = sym c.in_ok-row.ensures.ok_part ∙ c.lookup.ensures in
     refused_as g.S.Stage.held refl
-    (answer-by d b _ c.args.account c.args.number c.args.time _ _ (omega arith) c.if-not-has_account.ensures (omega arith) found
+    (answer-by d b _ c.args.account c.args.number c.args.time _ _ (omega arith) (sym c.in_ok-check_account.ensures) (omega arith) found
     ∙ not-theirs d b 0 c.args.account 0 c.args.time _ c.in_ok-row.row (sym c.if-not-is_theirs.ensures))
 
 pub returns-in_err-answer-clause-does : goal.returns-in_err-answer-clause-does
@@ -53,7 +54,7 @@ returns-in_err-answer-clause-does g c =
     let found = sym c.in_ok-row.ensures.ok_part ∙ c.lookup.ensures in
     let fault = c.in_err-answer.field-0.0 in
     refused_as g.S.Stage.held (ap end_reply (handed_on _ (UnreadableAnswer fault) c.from_residual-in_err-answer.ensures.1))
-    (answer-by d b _ c.args.account c.args.number c.args.time _ _ (omega arith) c.if-not-has_account.ensures (omega arith) found
+    (answer-by d b _ c.args.account c.args.number c.args.time _ _ (omega arith) (sym c.in_ok-check_account.ensures) (omega arith) found
     ∙ theirs d b 0 c.args.account 0 c.args.time _ c.in_ok-row.row _ (sym c.if-not-is_theirs.ensures) (answer-read _ (Err fault) c.in_err-answer.ensures.value))
 
 pub finish-requires : goal.finish-requires
@@ -79,7 +80,7 @@ returns-clause-does g c =
     let same : ending_of c.args.bytes.now c.ending-ending.result ≡ ending_by g.H.ConditionHash.digest_of (time_at (books_of c.args.self.now) c.args.time) c.args.bytes.now c.in_ok-row.row (answered_by c.in_ok-answer.answer) =
     c.ending-ending.ensures w ∙ ap (λ (b : Books). ending_by d b.time w r x) c.advance.ensures in
     turned_so g.S.Stage.held
-    (answer-by d b _ c.args.account c.args.number c.args.time _ _ (omega arith) c.if-not-has_account.ensures (omega arith) found
+    (answer-by d b _ c.args.account c.args.number c.args.time _ _ (omega arith) (sym c.in_ok-check_account.ensures) (omega arith) found
     ∙ theirs d b 0 c.args.account 0 c.args.time w r _ (sym c.if-not-is_theirs.ensures) (answer-read w (Ok c.in_ok-answer.answer) c.in_ok-answer.ensures.value)
     ∙ ap (ends (time_at b c.args.time) r) (sym same))
     (record {

@@ -1,4 +1,4 @@
-use Rattle.std.proofs.Common.{ℕ, List, ◌≡◌, false, ◌++◌, length, drop, refl, ap, ◌∙◌, arith}
+use Rattle.std.proofs.Common.{ℕ, List, ◌≡◌, false, ◌++◌, length, drop, refl, ap, ◌∙◌, arith, Err}
 use Rattle.wire.specs.declared.code.RejectCode.TheVariants as code
 use Rattle.pending.specs.Rows.{due}
 use Rattle.ledger.specs.Books.{Books, closed}
@@ -11,6 +11,8 @@ use Rattle.protocol.specs.Outcomes.{ended}
 use Rattle.protocol.specs.Turns.{ended_as}
 use Rattle.connector.specs.Views.{books_of}
 use Rattle.connector.proofs.Due.{due-found}
+use Rattle.connector.specs.Replies.{tick_reply}
+use Rattle.connector.proofs.Handed.{handed_on}
 use Rattle.connector.proofs.Outcomes.{turned_so, refused_as, tick-short, tick-never, tick-by}
 use Rattle.connector.proofs.connector.Connector.tick.Goals as goal
 
@@ -18,13 +20,15 @@ use Rattle.connector.proofs.connector.Connector.tick.Goals as goal
 abbrev our_reject : OwnAddress × Rejected → List ℕ
 our_reject w = our_bytes (own_bytes w.0) w.1.code w.1.first w.1.second
 
-pub returns-then-buffer-lt-LONGEST_PACKET-clause-does : goal.returns-then-buffer-lt-LONGEST_PACKET-clause-does
-returns-then-buffer-lt-LONGEST_PACKET-clause-does g c =
-    refused_as g.S.Stage.held refl (tick-short (books_of c.args.self.now) _ c.args.time (omega arith))
+pub returns-in_err-check_room-clause-does : goal.returns-in_err-check_room-clause-does
+returns-in_err-check_room-clause-does g c =
+    refused_as g.S.Stage.held (ap tick_reply (handed_on _ c.in_err-check_room.field-0.0 c.from_residual.ensures.1 ∙ ap Err c.in_err-check_room.ensures.0))
+    (tick-short (books_of c.args.self.now) _ c.args.time (omega (arith, c.in_err-check_room.ensures.1)))
 
-pub returns-then-time-gt-LAST_INSTANT-clause-does : goal.returns-then-time-gt-LAST_INSTANT-clause-does
-returns-then-time-gt-LAST_INSTANT-clause-does g c =
-    refused_as g.S.Stage.held refl (tick-never (books_of c.args.self.now) _ c.args.time (omega arith) (omega arith))
+pub returns-in_err-check_time-clause-does : goal.returns-in_err-check_time-clause-does
+returns-in_err-check_time-clause-does g c =
+    refused_as g.S.Stage.held (ap tick_reply (handed_on _ c.in_err-check_time.field-0.0 c.from_residual-in_err-check_time.ensures.1 ∙ ap Err c.in_err-check_time.ensures.0))
+    (tick-never (books_of c.args.self.now) _ c.args.time (omega arith) (omega (arith, c.in_err-check_time.ensures.1)))
 
 pub returns-in_default-clause-does : goal.returns-in_default-clause-does
 returns-in_default-clause-does g c =
