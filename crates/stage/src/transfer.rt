@@ -17,14 +17,14 @@ pub struct Transfer {
 }
 
 // What goes out for a transfer that passes.
-#[derive(Clone, Copy)]
+#[derive(Clone, Copy, Debug, PartialEq, Eq)]
 pub struct Passed {
     pub amount: u64,
     pub expiry: u64,
 }
 
 // A code, and two numbers beside it: they are 0 but for a code that says what they are.
-#[derive(Clone, Copy)]
+#[derive(Clone, Copy, Debug, PartialEq, Eq)]
 pub struct Rejected {
     pub code: RejectCode,
     pub first: u64,

@@ -105,24 +105,20 @@ impl Accounts {
         hold: Hold,
         change_in: I,
         change_out: O,
-    ) -> bool
+    ) -> Option<()>
         requires incoming { I.IsAlwaysCallable change_in }
         requires outgoing { O.IsAlwaysCallable change_out }
-        ensures changed { ChangesBoth (I.post change_in) (O.post change_out) hold (figures_list self.old) result (figures_list self.new) }
-        ensures unchanged { result ≡ false → self.new ≡ self.old }
+        ensures changed { ChangesBoth (I.post change_in) (O.post change_out) hold (figures_list self.old) (is_some result) (figures_list self.new) }
+        ensures unchanged { is_some result ≡ false → self.new ≡ self.old }
     {
         if !self.has_two(hold) {
-            return false;
+            return None;
         }
-        let Some(sender) = change_in(self.at(hold.sender)) else {
-            return false;
-        };
-        let Some(outgoing) = change_out(self.at(hold.outgoing)) else {
-            return false;
-        };
+        let sender = change_in(self.at(hold.sender))?;
+        let outgoing = change_out(self.at(hold.outgoing))?;
         self.put(hold.sender, sender);
         self.put(hold.outgoing, outgoing);
-        true
+        Some(())
     }
 
     // Holds both amounts, or none of them.
@@ -136,6 +132,7 @@ impl Accounts {
             |sender| sender.hold_in(hold.amount_in),
             |outgoing| outgoing.hold_out(hold.amount_out),
         )
+        .is_some()
     }
 
     // Ends a hold: frees both amounts, and books them where it was fulfilled. Nothing is done where less is held.
@@ -149,6 +146,7 @@ impl Accounts {
             |sender| sender.end_in(hold.amount_in, fulfilled),
             |outgoing| outgoing.end_out(hold.amount_out, fulfilled),
         )
+        .is_some()
     }
 
     // Books a settlement and gives the new balance, or none where the account is not set up or a limit does not allow it.

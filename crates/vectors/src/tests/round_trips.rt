@@ -152,9 +152,7 @@ fn data_at_the_edges_of_the_determinant(rt: HostRuntime) -> Result<(), Fail> {
 // A scheme and one segment of 1,021 letters.
 pub(crate) fn longest_address(heap: Global) -> Result<Vec<u8>, Fail> {
     let mut address = b"g.".to_vec(heap)?;
-    for _ in 0..1021 {
-        address.push(b'z')?;
-    }
+    address.resize(1_023, b'z')?;
     Ok(address)
 }
 

@@ -6,7 +6,7 @@ use layers::stack::{StackFigures, stack};
 use stage::accounts::AccountPair;
 use stage::end::End;
 use stage::interface::Stage;
-use stage::transfer::{Transfer, Verdict};
+use stage::transfer::{Passed, Transfer, Verdict};
 use std::fmt::Display;
 use std::process::Abort;
 use std::test::Fail;
@@ -24,13 +24,7 @@ fn transfer(number: u32, amount: u64, expiry: u64, time: u64) -> Result<Transfer
 
 // Passed with this amount and this expiry.
 fn check_passed(rt: &impl Abort, verdict: Verdict, amount: u64, expiry: u64, name: &impl Display) {
-    match verdict {
-        Ok(passed) => {
-            assert_eq!(rt; passed.amount, amount, "{name}");
-            assert_eq!(rt; passed.expiry, expiry, "{name}");
-        }
-        Err(_) => panic!(rt; "{name}: rejected"),
-    }
+    assert_eq!(rt; verdict, Ok(Passed { amount, expiry }), "{name}");
 }
 
 fn check_rejected(
