@@ -24,8 +24,9 @@ pub struct StackFigures {
 pub fn stack(figures: StackFigures) -> Result<Stack, NotMade<StackFigures>>
     ensures { StackMade figures result }
 {
-    let timed = Expiry::new(figures.margin, figures.hold, End::new())
-        .map_err(|_| NotMade { passed_in: figures })?;
+    let timed = Expiry::new(figures.margin, figures.hold, End::new()).map_err(|_| NotMade {
+        passed_in: figures,
+    })?;
     let rated = Rate::new(figures.prices, timed).map_err(|_| NotMade { passed_in: figures })?;
     Maximum::new(figures.most, rated).map_err(|_| NotMade { passed_in: figures })
 }
