@@ -1,0 +1,5 @@
+// Calls of a connector, made one after another.
+#![tactic(auto)]
+
+#[cfg(test)]
+mod tests;

@@ -1,0 +1,6 @@
+// What is tested: every refusal and every reject of the calls in the order in which they are judged, the same calls with both
+// hashes, and the duties of two connectors.
+mod answering;
+mod duties;
+mod peers;
+mod preparing;
