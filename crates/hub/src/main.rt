@@ -1,6 +1,7 @@
 // The hub: reads one packet from standard input and prints a statement of it.
 #![tactic(auto)]
 
+mod passage;
 mod statement;
 mod words;
 

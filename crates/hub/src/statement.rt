@@ -1,4 +1,5 @@
 // The statement of one packet: its kind and every field, or the first fault; and the packet written again.
+use crate::passage::pass_through;
 use crate::words::{Ascii, Expiry, Hex, Measured};
 use condition::sha256::digest;
 use packet::reading::read_packet;
@@ -20,7 +21,13 @@ pub(crate) fn statement(heap: Global, input: &[u8]) -> Result<String, AllocError
             };
             out.truncate(n);
             let again = Again { bytes: &out, input };
-            format!(in heap; "{}{again}", Fields(&packet))
+            match packet {
+                Packet::Prepare(p) => {
+                    let passage = pass_through(heap, input, p.expiry)?;
+                    format!(in heap; "{}{again}{passage}", Fields(&packet))
+                }
+                _ => format!(in heap; "{}{again}", Fields(&packet)),
+            }
         }
         Err(fault) => format!(in heap; "no packet: {fault}\n"),
     }
@@ -140,6 +147,15 @@ mod tests {
             &rt,
             b"\x0D\x23abcdefghijklmnopqrstuvwxyz012345\x02ok",
             "Fulfill\nfulfilment: 6162636465666768696a6b6c6d6e6f707172737475767778797a303132333435\nits SHA-256: 653bb1245e828fcda4fa53fcd5a3def5bd7654e651f54b4132b73d74e64435c4\ndata: 2 bytes\nwritten again:\n  0d236162636465666768696a6b6c6d6e6f707172737475767778797a30313233\n  3435026f6b\n37 bytes; equal to the input: yes\n",
+        )
+    }
+
+    #[test]
+    fn a_prepare_with_no_route(rt: HostRuntime) -> Result<(), Fail> {
+        check_statement(
+            &rt,
+            b"\x0CA\x00\x00\x00\x00\x00\x00\x00\x0020261117123045250abcdefghijklmnopqrstuvwxyz012345\x06test.x\x00",
+            "Prepare\namount: 0\nexpiry: 2026-11-17 12:30:45.250 UTC, instant 1794918645250\ncondition: 6162636465666768696a6b6c6d6e6f707172737475767778797a303132333435\ndestination: test.x (6 bytes)\ndata: 0 bytes\nwritten again:\n  0c41000000000000000032303236313131373132333034353235306162636465\n  666768696a6b6c6d6e6f707172737475767778797a3031323334350674657374\n  2e7800\n67 bytes; equal to the input: yes\nat a connector of two peers, from peer 0 a minute before its expiry:\n  rejected by F02 (unreachable), 19 bytes\n",
         )
     }
 }
