@@ -36,7 +36,7 @@ const SET_UP: SetUp<'static> = SetUp {
     address: b"g.us",
 };
 
-const FIGURES: StackFigures = StackFigures {
+pub(crate) const FIGURES: StackFigures = StackFigures {
     most: [600; 8],
     prices: [1; 8],
     margin: 1000,
