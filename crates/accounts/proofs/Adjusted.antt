@@ -1,6 +1,7 @@
 -- Lists of accounts after a change at one place, or at the two of a hold. Assumes nothing.
 use Rattle.std.proofs.Common.{◌≡◌, ℕ, zero, suc, ◌<◌, Bool, true, false, not, ◌&&◌, eqb, List, [], ◌∷◌, length, get_or, sym, refl, ◌∙◌, subst}
 use Rattle.std.proofs.lemmas.List.{length-set, get_or-set_same, get_or-set_other}
+use Rattle.std.proofs.lemmas.Bool.{and_parts, not-true, ltb-true, eqb-false}
 use Rattle.accounts.specs.declared.figures.Figures.{Figures}
 use Rattle.accounts.specs.declared.hold.Hold.{Hold}
 use Rattle.accounts.specs.Figures.{unset, takes_in, takes_out, hold_in, hold_out, end_in, end_out, adjust, is_set_up, two_set_up, can_hold, held, ended}
@@ -34,6 +35,23 @@ pub length-ended : (paid : Bool) (h : Hold) (xs : List Figures) → length (ende
 length-ended paid h xs =
     length-adjust h.outgoing (end_out paid h.amount_out) (adjust h.sender (end_in paid h.amount_in) xs)
     ∙ length-adjust h.sender (end_in paid h.amount_in) xs
+
+-- what the two accounts of a hold are known to be
+pub record Two (xs : List Figures) (h : Hold) : Type 0 where
+  pub sender : h.sender < length xs
+  pub outgoing : h.outgoing < length xs
+  pub apart : h.outgoing ≡ h.sender → ⊥
+
+-- two accounts that pass the test are set up, and they differ
+pub two_from : (xs : List Figures) (h : Hold) → two_set_up xs h ≡ true → Two xs h
+two_from xs h e =
+    let parts = and_parts (is_set_up xs h.sender && is_set_up xs h.outgoing) (not (eqb h.sender h.outgoing)) e in
+    let both = and_parts (is_set_up xs h.sender) (is_set_up xs h.outgoing) parts.0 in
+    record {
+      sender = ltb-true h.sender (length xs) both.0;
+      outgoing = ltb-true h.outgoing (length xs) both.1;
+      apart = λ same. eqb-false h.sender h.outgoing (not-true (eqb h.sender h.outgoing) parts.1) (sym same);
+    }
 
 regrouped : (a b d x y : Bool) → (a && x && (b && y) && d) ≡ (a && b && d && x && y)
 regrouped false b d x y = refl

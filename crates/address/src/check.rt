@@ -3,6 +3,7 @@ ghost use Rattle.std.specs.Prelude.{◌≡◌};
 ghost use Rattle.wire.specs.Reading.{standing};
 ghost use Rattle.address.specs.Addresses.{is_scheme, is_symbol, is_segment, rest_segments, is_address, is_prefix};
 
+use wire::compare::same_bytes;
 use wire::reader::Reader;
 
 // The longest address.
@@ -27,7 +28,7 @@ fn is_segment(part: &[u8]) -> bool
 fn is_scheme(part: &[u8]) -> bool
     ensures { result ≡ is_scheme part.now }
 {
-    SCHEMES.iter().any(|scheme| part == *scheme)
+    SCHEMES.iter().any(|scheme| same_bytes(part, scheme))
 }
 
 // Zero or more segments, each behind its dot, up to the end.

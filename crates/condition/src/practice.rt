@@ -2,6 +2,7 @@
 ghost use Rattle.condition.specs.Practice.{practice};
 
 use crate::interface::ConditionHash;
+use std::array;
 
 // The bits of each byte that are inverted.
 const INVERTED: u8 = 0x5a;
@@ -13,8 +14,6 @@ impl ConditionHash for Practice {
     ghost digest_of = { practice };
 
     fn hash(&self, input: &[u8; 32]) -> [u8; 32] {
-        let mut out = input.map(|byte| byte ^ INVERTED);
-        out.reverse();
-        out
+        array::from_fn(|i| input[31 - i] ^ INVERTED)
     }
 }

@@ -9,11 +9,12 @@ use crate::statement::statement;
 use std::io::Read;
 
 // One byte more than a determinant can speak of. Of a longer input these bytes tell the same fault as all of it would.
-const MOST_INPUT: u64 = 65_540;
+const MOST_INPUT: usize = 65_540;
 
 fn run(rt: &HostRuntime) -> anyhow::Result<()> {
-    let mut input = Vec::new(rt.alloc());
-    rt.stdin().take(MOST_INPUT).read_to_end(&mut input)?;
+    // room for a byte more than is taken, so that the end is met without growing
+    let mut input = Vec::with_capacity(rt.alloc(), MOST_INPUT + 1)?;
+    rt.stdin().take(MOST_INPUT as u64).read_to_end(&mut input)?;
     rt.print(statement(rt.alloc(), &input)?)?;
     Ok(())
 }

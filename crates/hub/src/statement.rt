@@ -8,6 +8,7 @@ use packet_writer::writing::{LONGEST_PACKET, write_packet};
 use std::alloc::{AllocError, Global};
 use std::fmt;
 use wire::code::RejectCode;
+use wire::compare::same_bytes;
 
 // How many bytes of a packet written again stand in one line.
 const LINE: usize = 32;
@@ -87,7 +88,7 @@ impl fmt::Display for Again<'_> {
         for line in self.bytes.chunks(LINE) {
             writeln!(f, "  {}", Hex(line))?;
         }
-        let equal = if self.bytes == self.input {
+        let equal = if same_bytes(self.bytes, self.input) {
             "yes"
         } else {
             "no"

@@ -38,11 +38,13 @@ impl<L: Layer, S: Stage> Stage for Over<L, S> {
 
     ghost once = { λ s. S.Stage.once s.below };
 
+    #[inline]
     fn look(&self, transfer: Transfer) -> Verdict {
         let changed = self.layer.own(transfer)?;
         self.below.look(changed)
     }
 
+    #[inline]
     fn take(&mut self, transfer: Transfer) {
         if let Ok(changed) = self.layer.own(transfer) {
             self.below.take(changed);

@@ -24,9 +24,15 @@ pub struct StackFigures {
 pub fn stack(figures: StackFigures) -> Result<Stack, NotMade<StackFigures>>
     ensures { StackMade figures result }
 {
-    let timed = Expiry::new(figures.margin, figures.hold, End::new()).map_err(|_| NotMade {
-        passed_in: figures,
-    })?;
-    let rated = Rate::new(figures.prices, timed).map_err(|_| NotMade { passed_in: figures })?;
-    Maximum::new(figures.most, rated).map_err(|_| NotMade { passed_in: figures })
+    let refused = NotMade { passed_in: figures };
+    let Ok(timed) = Expiry::new(figures.margin, figures.hold, End::new()) else {
+        return Err(refused);
+    };
+    let Ok(rated) = Rate::new(figures.prices, timed) else {
+        return Err(refused);
+    };
+    let Ok(whole) = Maximum::new(figures.most, rated) else {
+        return Err(refused);
+    };
+    Ok(whole)
 }

@@ -55,7 +55,8 @@ found n rs i h =
     let same : f.0 ≡ i = omega (arith, f.1) in
     subst (Found n rs) same f.2
 
-absent-from : (j n : ℕ) (rs : List Pending) → position_from (λ r. eqb r.number n) j rs ≡ None → (lookup n rs ≡ None) × (dropped n rs ≡ rs) × (marked n rs ≡ rs)
+-- where no row from a place on has a number, nothing is looked up, dropped or marked by it
+pub absent-from : (j n : ℕ) (rs : List Pending) → position_from (λ r. eqb r.number n) j rs ≡ None → (lookup n rs ≡ None) × (dropped n rs ≡ rs) × (marked n rs ≡ rs)
 absent-from j n [] h = (refl, refl, refl)
 absent-from j n (r ∷ rs) h =
     elim (eqb r.number n)

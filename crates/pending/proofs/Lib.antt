@@ -1,3 +1,2 @@
-pub mod Picked
 pub mod Found
 pub mod Soonest

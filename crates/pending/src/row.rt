@@ -21,5 +21,5 @@ pub struct Pending {
 pub fn ends_before(row: &Pending, other: &Pending) -> bool
     ensures { result ≡ ends_before row.now other.now }
 {
-    (row.expiry, row.number) < (other.expiry, other.number)
+    row.expiry < other.expiry || row.expiry == other.expiry && row.number < other.number
 }

@@ -1,13 +1,24 @@
 -- A look-up that goes over the routes gives the longest match, and there is but one. Assumes nothing.
-use Rattle.std.proofs.Common.{◌≡◌, ℕ, ◌<◌, ◌≤◌, Bool, true, false, cond, ◌&&◌, List, [], ◌∷◌, ◌++◌, length, take, Some, None, Option, sym, refl, ap, ◌∙◌, subst, le_refl, arith}
+use Rattle.std.proofs.Common.{◌≡◌, ℕ, ◌<◌, ◌≤◌, Bool, true, false, cond, ◌&&◌, List, [], ◌∷◌, ◌++◌, ◌+◌, length, get_or, take, drop, Some, None, Option, sym, refl, ap, ◌∙◌, subst, le_refl, arith}
 use Rattle.std.specs.List.{AllByRecursion}
 use Rattle.std.proofs.ByRecursion.{All-push, All-weaker, all-has, has_push, has_append_left}
-use Rattle.std.proofs.lemmas.List.{append-nil, append_assoc}
+use Rattle.std.proofs.lemmas.List.{append-nil, append_assoc, at_drop_more}
 use Rattle.std.proofs.lemmas.Bool.{ltb-true, ltb-false}
 use Rattle.std.proofs.lemmas.Bool.Decides.{not_from_Decides}
+use Rattle.routing.specs.declared.entry.Entry.{Entry}
+use Rattle.routing.specs.Entries.{entry_route, route_list}
 use Rattle.routing.specs.Routes.{RouteValue, no_prefix_twice, routes_fit, begins, Begins, longer_than, best_with, best_of, account_of, route_for, IsLongest, Longest, OneOfALength, Known}
 use Rattle.routing.proofs.Fitting.{fit-known, one-of-a-prefix}
 use Rattle.routing.proofs.Matching.{front_bytes, begins-decides}
+
+-- the entry at a place, of those that are left: t says whether it is better
+pub best-next : (d : List ℕ) (best after : Option RouteValue) (es : List Entry) (i : ℕ) (e : Entry) (t : Bool) → i < length es → e ≡ get_or es i e → (begins d (entry_route e).prefix && longer_than best (entry_route e)) ≡ t → after ≡ cond t (Some (entry_route e)) best → best_of d after (route_list (drop (i + 1) es)) ≡ best_of d best (route_list (drop i es))
+best-next d best after es i e t there is test is-after =
+    let rest = route_list (drop (i + 1) es) in
+    ap (λ b. best_of d b rest) is-after
+    ∙ sym (ap (λ b. best_of d (cond b (Some (entry_route e)) best) rest) test)
+    ∙ ap (λ (x : Entry). best_of d best (entry_route x ∷ rest)) is
+    ∙ sym (at_drop_more (λ xs. best_of d best (route_list xs)) es i e there)
 
 -- the best route so far is the longest match of those that were looked at
 abbrev Best : List RouteValue → List ℕ → Option RouteValue → Type 0

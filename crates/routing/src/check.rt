@@ -6,6 +6,7 @@ ghost use Rattle.routing.specs.Routes.{route_fits, each_fits, has_prefix, no_pre
 use crate::entry::LONGEST;
 use crate::route::Route;
 use address::check::is_prefix;
+use wire::compare::same_bytes;
 
 // The most routes of a table.
 const MOST: usize = 32;
@@ -25,7 +26,7 @@ fn each_fits(accounts: u8, routes: &[Route<'_>]) -> bool
 fn has_prefix(routes: &[Route<'_>], prefix: &[u8]) -> bool
     ensures { result ≡ has_prefix (given_list routes.now) prefix.now }
 {
-    routes.iter().any(|route| route.prefix == prefix)
+    routes.iter().any(|route| same_bytes(route.prefix, prefix))
 }
 
 // Each prefix is looked for among the routes behind it, which a chain over the routes alone does not have.

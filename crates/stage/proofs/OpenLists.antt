@@ -1,5 +1,5 @@
 -- Lists of numbers, none twice. Assumes nothing.
-use Rattle.std.proofs.Common.{◌≡◌, ℕ, zero, suc, ◌+◌, ◌-◌, ◌<◌, ◌≤◌, Bool, true, false, eqb, List, [], ◌∷◌, ◌++◌, length, get_or, take, drop, sym, refl, ◌∙◌, arith, None, Some, position}
+use Rattle.std.proofs.Common.{◌≡◌, ℕ, zero, suc, ◌+◌, ◌-◌, ◌<◌, ◌≤◌, Bool, true, false, cond, eqb, List, [], ◌∷◌, ◌++◌, length, get_or, take, drop, sym, refl, ◌∙◌, arith, None, Some, position}
 use Rattle.std.proofs.lemmas.Grind.{common_steps}
 use Rattle.std.proofs.lemmas.Bool.{eqb-true, eq-eqb}
 use Rattle.std.proofs.lemmas.Bool.Decides.{nat_tests}
@@ -10,6 +10,11 @@ use Rattle.std.proofs.Math.Seq.{paste}
 use Rattle.std.proofs.lemmas.List.Folds.{list_any-append, list_any_at}
 use Rattle.std.specs.List.{remove, copy_within, list_any}
 use Rattle.stage.specs.Numbers.{among, none_twice, without}
+
+-- where a test comes first and yields no, a yes is of the second test alone
+pub not_first : (a b : Bool) → cond a false b ≡ true → (a ≡ false) × (b ≡ true)
+not_first true b h = (cc, cc)
+not_first false b h = (refl, h)
 
 pub once-push : (xs : List ℕ) (n : ℕ) → none_twice xs ≡ true → among xs n ≡ false → none_twice (xs ++ (n ∷ [])) ≡ true
 once-push [] n o a = refl

