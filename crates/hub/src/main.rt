@@ -12,9 +12,10 @@ use std::io::Read;
 const MOST_INPUT: usize = 65_540;
 
 fn run(rt: &HostRuntime) -> anyhow::Result<()> {
-    // room for a byte more than is taken, so that the end is met without growing
+    // room for a byte more than is taken, so that the end is met without growing; what is left of it is given back
     let mut input = Vec::with_capacity(rt.alloc(), MOST_INPUT + 1)?;
     rt.stdin().take(MOST_INPUT as u64).read_to_end(&mut input)?;
+    input.shrink_to_fit();
     rt.print(statement(rt.alloc(), &input)?)?;
     Ok(())
 }
